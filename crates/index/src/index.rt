@@ -21,6 +21,7 @@ use std::marker::PhantomData;
 use store::blocks::Store;
 use store::fault::Fault;
 use store::fault::Refusal;
+use store::fault::RefusalPartialEq;
 
 // An open index. `header` is the header's block; `tree` has the root's block and level, and the number of keys.
 // A store that said 'down' is remembered by its fault.

@@ -81,7 +81,7 @@ fn lower<K: Key, S: Store>(store: &mut S, header: Header) -> Result<Header, Faul
     }
     let root = child_block::<K, S>(store, header.root, 0)?;
     let level = header.level - 1;
-    if root == 0 || header.keys > limit(level) {
+    if root == 0 || root > LARGEST_BLOCK || header.keys > limit(level) {
         return Err(damaged(header.root));
     }
     store.give_back(header.root)?;

@@ -1,5 +1,6 @@
 // Two siblings made one, or shared out anew over their two blocks.
 ghost use Prim.Native.Nat.{_+_, _<_, _≤_};
+ghost use Rattle.std.specs.declared.result.Result.the-variants.{Ok, Err};
 use balance::cut::Halves;
 use balance::cut::halve;
 use balance::limits::limit;
@@ -29,7 +30,11 @@ pub struct Siblings<K> {
 }
 
 // The child at a place with its left neighbour, or with its right one if there is no left.
-fn siblings<K: Key, S: Store>(store: &mut S, parent: u32, place: u32) -> Result<Siblings<K>, Fault>
+fn neighbours<K: Key, S: Store>(
+    store: &mut S,
+    parent: u32,
+    place: u32,
+) -> Result<Siblings<K>, Fault>
     ensures { λ r. ⌜ elim r [ Ok s ↦ s .place + 1 < 80 | Err f ↦ Unit {0} ] ⌝ }
 {
     let place = place.saturating_sub(1);
@@ -99,7 +104,7 @@ pub fn mend<K: Key, S: Store>(
     place: u32,
     level: u32,
 ) -> Result<Mark, Fault> {
-    let pair: Siblings<K> = siblings(store, parent, place)?;
+    let pair: Siblings<K> = neighbours(store, parent, place)?;
     if pair.weight > limit(level) / 8 * 7 {
         share(store, parent, level, &pair)?;
         return Ok(Mark::MergeSplit);
