@@ -1,0 +1,2 @@
+// Block stores in plain memory.
+mod runs;
