@@ -52,8 +52,3 @@ pub record Fits (w c g : ℕ) (marks words : List ℕ) : Type 0 where
   pub narrow : w ≤ 512
   pub whole : c ≡ most-blocks w (length marks) (length words)
   pub counted : g ≡ count-to (in-use c marks) limit
-
--- a table of this state is ready, and means m
-pub record Means (m : Meaning) (w c g : ℕ) (marks words : List ℕ) : Type 0 where
-  pub ready : Fits w c g marks words
-  pub same : table w c marks words ≡ m
