@@ -219,3 +219,72 @@ pub impl<'a> Store for TableStore<'a> as TableStoreStore {
         })
     }
 }
+
+#[cfg(test)]
+mod tests {
+    use super::*;
+    use std::test::*;
+    use store::fault::FaultDebug;
+    use store::fault::FaultPartialEq;
+
+    #[test]
+    fn keeps_words() -> Result<(), Fail> {
+        let mut words = [7; 13];
+        let mut marks = [9; 4];
+        let Ok(mut store) = TableStore::fresh(&mut words, &mut marks, 4) else {
+            return Err(Fail::new("unfit"));
+        };
+        let block = store.take()?;
+        store.set(block, 2, 5)?;
+        check_eq(store.get(block, 2), Ok(5))?;
+        check_eq(store.get(block, 3), Ok(0))?;
+        check_eq(store.stock()?.granted, 1)?;
+        check_eq(store.stock()?.capacity, 3)?;
+        store.give_back(block)?;
+        check_eq(store.stock()?.granted, 0)?;
+        check_eq(
+            store.get(block, 2),
+            Err(Fault::own(Refusal::NotGranted, block)),
+        )
+    }
+
+    #[test]
+    fn grants_again() -> Result<(), Fail> {
+        let mut words = [7; 2];
+        let mut marks = [0; 1];
+        let Ok(mut store) = TableStore::reopen(&mut words, &mut marks, 2) else {
+            return Err(Fail::new("unfit"));
+        };
+        check_eq(store.take(), Ok(1))?;
+        store.set(1, 0, 5)?;
+        check_eq(store.take(), Err(Fault::own(Refusal::NoRoom, 0)))?;
+        store.give_back(1)?;
+        check_eq(store.take(), Ok(1))?;
+        check_eq(store.get(1, 0), Ok(0))
+    }
+
+    fn misfit(width: u32) -> Result<(), Fail> {
+        let mut words = [0; 4];
+        let mut marks = [0; 4];
+        match TableStore::fresh(&mut words, &mut marks, width) {
+            Ok(_) => Err(Fail::new("made")),
+            Err(unfit) => check_eq(unfit.fault.refusal.number(), 10),
+        }
+    }
+
+    #[test]
+    fn refuses_widths() -> Result<(), Fail> {
+        misfit(0)?;
+        misfit(513)
+    }
+
+    #[test]
+    fn has_no_room() -> Result<(), Fail> {
+        let mut words = [0; 4];
+        let mut marks = [0; 4];
+        let Ok(mut store) = TableStore::fresh(&mut words, &mut marks, 5) else {
+            return Err(Fail::new("unfit"));
+        };
+        check_eq(store.take(), Err(Fault::own(Refusal::NoRoom, 0)))
+    }
+}
