@@ -2,3 +2,4 @@ pub mod Faults
 pub mod Meaning
 pub mod Calls
 pub mod Events
+pub mod Laws

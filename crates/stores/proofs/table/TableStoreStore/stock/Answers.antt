@@ -1,0 +1,5 @@
+use Rattle.stores.proofs.TableCalls.{stocked}
+use Rattle.stores.proofs.table.TableStoreStore.stock.Needs as need
+
+pub returns : need.returns
+returns c = record { keeps = λ f. record { call = stocked f; deep = tt; ready = f }; did = tt }

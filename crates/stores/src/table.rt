@@ -1,0 +1,290 @@
+// A block store in two lent runs: the words of all blocks, one block after another, and a mark for each block.
+// The mark of a granted block is not 0. Block b has the mark b - 1 and the words from (b - 1) * width on.
+ghost use mathlib.Core.Path.{_≡_};
+ghost use Prim.Native.Nat.{ℕ, _<_, _≤_};
+ghost use denote.Ref.{now};
+ghost use lib.ListN.{getD};
+ghost use Rattle.stores.specs.Table.{in-use};
+ghost use Rattle.stores.specs.Opened.{means, Ready, FreshOr, ReopenedOr, StillMeans};
+ghost use Rattle.stores.specs.Laws.Tables.{fits-sound};
+use crate::runs::clear;
+use crate::runs::clear_marks;
+use crate::runs::count_marks;
+use crate::runs::free_mark;
+use crate::runs::marked;
+use crate::runs::most;
+use crate::runs::put_mark;
+use crate::runs::put_word;
+use crate::runs::word_at;
+use store::blocks::Stock;
+use store::blocks::Store;
+use store::fault::Fault;
+use store::fault::Refusal;
+
+// The most words that a block may have.
+const WIDEST: u32 = 512;
+
+// `rover` is where the next free mark is looked for first: a hint, and any value will do.
+#[derive(Drop)]
+pub struct TableStore<'a> {
+    words: &'a mut [u64],
+    marks: &'a mut [u8],
+    width: u32,
+    capacity: u32,
+    granted: u32,
+    rover: u32,
+}
+
+// The lent runs, handed back.
+#[derive(Drop)]
+pub struct Runs<'a> {
+    pub words: &'a mut [u64],
+    pub marks: &'a mut [u8],
+}
+
+// The lent runs, handed back with the fault.
+#[derive(Drop)]
+pub struct Unfit<'a> {
+    pub fault: Fault,
+    pub words: &'a mut [u64],
+    pub marks: &'a mut [u8],
+}
+
+impl<'a> TableStore<'a> {
+    // A store with no grants. The words stay as they are, and so do marks past its capacity.
+    pub fn fresh(
+        words: &'a mut [u64],
+        marks: &'a mut [u8],
+        width: u32,
+    ) -> Result<TableStore<'a>, Unfit<'a>>
+        ensures { λ r. ⌜ FreshOr width (now (marks .entry)) (now (words .entry)) r ⌝ }
+    {
+        if width == 0 || width > WIDEST {
+            return Err(Unfit {
+                fault: Fault::own(Refusal::Misfit, 0),
+                words,
+                marks,
+            });
+        }
+        let capacity = most(width, marks.len(), words.len());
+        clear_marks(marks, capacity);
+        Ok(TableStore {
+            words,
+            marks,
+            width,
+            capacity,
+            granted: 0,
+            rover: 0,
+        })
+    }
+
+    // A store over runs as they were left: its grants are those that the marks tell.
+    pub fn reopen(
+        words: &'a mut [u64],
+        marks: &'a mut [u8],
+        width: u32,
+    ) -> Result<TableStore<'a>, Unfit<'a>>
+        ensures { λ r. ⌜ ReopenedOr width (now (marks .entry)) (now (words .entry)) r ⌝ }
+    {
+        if width == 0 || width > WIDEST {
+            return Err(Unfit {
+                fault: Fault::own(Refusal::Misfit, 0),
+                words,
+                marks,
+            });
+        }
+        let capacity = most(width, marks.len(), words.len());
+        let granted = count_marks(marks, capacity);
+        Ok(TableStore {
+            words,
+            marks,
+            width,
+            capacity,
+            granted,
+            rover: 0,
+        })
+    }
+
+    // Ends the store, and yields its runs.
+    pub fn into_runs(self) -> Runs<'a>
+        ensures words { λ r. ⌜ now (r .words) ≡ now (self .entry .words) ⌝ }
+        ensures marks { λ r. ⌜ now (r .marks) ≡ now (self .entry .marks) ⌝ }
+    {
+        let TableStore {
+            words,
+            marks,
+            width: _,
+            capacity: _,
+            granted: _,
+            rover: _,
+        } = self;
+        Runs { words, marks }
+    }
+
+    // Ends the store, and opens its runs again: of a ready store this is never refused, and means the same.
+    pub fn reopened(self) -> Result<TableStore<'a>, Unfit<'a>>
+        ensures { λ r. ⌜ (Ready (self .entry) → StillMeans (means (self .entry)) r) ⌝ }
+    {
+        let width = self.width;
+        let Runs { words, marks } = self.into_runs();
+        TableStore::reopen(words, marks, width)
+    }
+
+    fn is_granted(&self, block: u32) -> bool
+        ensures { λ r. ⌜ r ≡ in-use (now (self .entry) .capacity) (now (now (self .entry) .marks)) block ⌝ }
+    {
+        marked(self.marks, self.capacity, block)
+    }
+
+    fn word(&self, at: usize) -> u64
+        ensures { λ r. ⌜ r ≡ getD (now (now (self .entry) .words)) at 0 ⌝ }
+    {
+        word_at(self.words, at)
+    }
+
+    // A free place, the first from the rover on, else the first of all; or the capacity, if none is free.
+    fn free_place(&self) -> u32
+        ensures within { λ r. ⌜ r ≤ now (self .entry) .capacity ⌝ }
+        ensures free { λ r. ⌜ (r < now (self .entry) .capacity → getD (now (now (self .entry) .marks)) r 0 ≡ 0) ⌝ }
+        ensures used { λ r. ⌜ ((k : ℕ) → now (self .entry) .capacity ≤ r → k < r → getD (now (now (self .entry) .marks)) k 0 ≡ 0 → ⊥) ⌝ }
+    {
+        let place = free_mark(self.marks, self.rover, self.capacity);
+        if place < self.capacity {
+            return place;
+        }
+        free_mark(self.marks, 0, self.capacity)
+    }
+}
+
+pub impl<'a> Store for TableStore<'a> as TableStoreStore {
+    ghost meaning = { means };
+
+    ghost ready = { Ready };
+
+    ghost sound = { λ s f. fits-sound _ _ _ _ _ f };
+
+    fn take(&mut self) -> Result<u32, Fault> {
+        if self.granted >= self.capacity {
+            return Err(Fault::own(Refusal::NoRoom, 0));
+        }
+        let place = self.free_place();
+        if place >= self.capacity {
+            return Err(Fault::own(Refusal::NoRoom, 0));
+        }
+        let width = self.width as usize;
+        clear(self.words, place as usize * width, width);
+        put_mark(self.marks, place as usize, 1);
+        self.granted += 1;
+        self.rover = place + 1;
+        Ok(place + 1)
+    }
+
+    fn give_back(&mut self, block: u32) -> Result<(), Fault> {
+        if !self.is_granted(block) {
+            return Err(Fault::own(Refusal::NotGranted, block));
+        }
+        put_mark(self.marks, block as usize - 1, 0);
+        self.granted = self.granted.saturating_sub(1);
+        Ok(())
+    }
+
+    fn get(&mut self, block: u32, place: u32) -> Result<u64, Fault> {
+        if !self.is_granted(block) {
+            return Err(Fault::own(Refusal::NotGranted, block));
+        }
+        if place >= self.width {
+            return Err(Fault::own(Refusal::Outside, block));
+        }
+        let at = (block as usize - 1) * self.width as usize + place as usize;
+        Ok(self.word(at))
+    }
+
+    fn set(&mut self, block: u32, place: u32, word: u64) -> Result<(), Fault> {
+        if !self.is_granted(block) {
+            return Err(Fault::own(Refusal::NotGranted, block));
+        }
+        if place >= self.width {
+            return Err(Fault::own(Refusal::Outside, block));
+        }
+        let at = (block as usize - 1) * self.width as usize + place as usize;
+        put_word(self.words, at, word);
+        Ok(())
+    }
+
+    fn stock(&mut self) -> Result<Stock, Fault> {
+        Ok(Stock {
+            width: self.width,
+            granted: self.granted,
+            capacity: self.capacity,
+        })
+    }
+}
+
+#[cfg(test)]
+mod tests {
+    use super::*;
+    use std::test::*;
+    use store::fault::FaultDebug;
+    use store::fault::FaultPartialEq;
+
+    #[test]
+    fn keeps_words() -> Result<(), Fail> {
+        let mut words = [7; 13];
+        let mut marks = [9; 4];
+        let Ok(mut store) = TableStore::fresh(&mut words, &mut marks, 4) else {
+            return Err(Fail::new("unfit"));
+        };
+        let block = store.take()?;
+        store.set(block, 2, 5)?;
+        check_eq(store.get(block, 2), Ok(5))?;
+        check_eq(store.get(block, 3), Ok(0))?;
+        check_eq(store.stock()?.granted, 1)?;
+        check_eq(store.stock()?.capacity, 3)?;
+        store.give_back(block)?;
+        check_eq(store.stock()?.granted, 0)?;
+        check_eq(
+            store.get(block, 2),
+            Err(Fault::own(Refusal::NotGranted, block)),
+        )
+    }
+
+    #[test]
+    fn grants_again() -> Result<(), Fail> {
+        let mut words = [7; 2];
+        let mut marks = [0; 1];
+        let Ok(mut store) = TableStore::reopen(&mut words, &mut marks, 2) else {
+            return Err(Fail::new("unfit"));
+        };
+        check_eq(store.take(), Ok(1))?;
+        store.set(1, 0, 5)?;
+        check_eq(store.take(), Err(Fault::own(Refusal::NoRoom, 0)))?;
+        store.give_back(1)?;
+        check_eq(store.take(), Ok(1))?;
+        check_eq(store.get(1, 0), Ok(0))
+    }
+
+    fn misfit(width: u32) -> Result<(), Fail> {
+        let mut words = [0; 4];
+        let mut marks = [0; 4];
+        match TableStore::fresh(&mut words, &mut marks, width) {
+            Ok(_) => Err(Fail::new("made")),
+            Err(unfit) => check_eq(unfit.fault.refusal.number(), 10),
+        }
+    }
+
+    #[test]
+    fn refuses_widths() -> Result<(), Fail> {
+        misfit(0)?;
+        misfit(513)
+    }
+
+    #[test]
+    fn has_no_room() -> Result<(), Fail> {
+        let mut words = [0; 4];
+        let mut marks = [0; 4];
+        let Ok(mut store) = TableStore::fresh(&mut words, &mut marks, 5) else {
+            return Err(Fail::new("unfit"));
+        };
+        check_eq(store.take(), Err(Fault::own(Refusal::NoRoom, 0)))
+    }
+}
