@@ -1,6 +1,11 @@
 // Entries of a node written, put in, taken out, and moved between nodes.
 ghost use Prim.Native.Nat.{_<_, _≤_};
-use crate::copy::copy_entries;
+ghost use Rattle.store.specs.Calls.{Leaves};
+ghost use Rattle.runs.specs.Work.{Work};
+ghost use Rattle.runs.specs.Blocks.{Edited, filled};
+ghost use Rattle.nodes.specs.Places.{form, key-at};
+ghost use Rattle.nodes.specs.Nodes.{Room, entry-of, placed};
+use crate::carry::copy_entries;
 use crate::entry::Entry;
 use crate::layout::COUNT_AT;
 use crate::layout::LEVEL_AT;
@@ -17,6 +22,7 @@ use store::fault::Fault;
 // Writes a key's words where entry i has them.
 fn put_key<K: Key, S: Store>(store: &mut S, block: u32, i: u32, key: &K) -> Result<(), Fault>
     requires within { ⌜ i < 80 ⌝ }
+    ensures { λ r. ⌜ Leaves meaning ready (Work (Room (form width) block) (Edited block (filled (key-at (form width) i) (packed (now (key .entry))) width))) (now (store .entry)) r (now (store .exit)) ⌝ }
 {
     let at = key_at::<K>(i);
     for j in 0..K::words() {
@@ -33,6 +39,7 @@ fn put_entry<K: Key, S: Store>(
     entry: &Entry<K>,
 ) -> Result<(), Fault>
     requires within { ⌜ i < 80 ⌝ }
+    ensures { λ r. ⌜ Leaves meaning ready (Work (Room (form width) block) (Edited block (placed (form width) i (entry-of packed (now (entry .entry)))))) (now (store .entry)) r (now (store .exit)) ⌝ }
 {
     store.set(block, weight_at(i), entry.weight)?;
     put_key(store, block, i, &entry.key)?;

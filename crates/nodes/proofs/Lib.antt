@@ -1,0 +1,4 @@
+pub mod Upto
+pub mod Rooms
+pub mod Carries
+pub mod Puts
