@@ -2,3 +2,5 @@ pub mod Upto
 pub mod Rooms
 pub mod Carries
 pub mod Puts
+pub mod Words
+pub mod Lists

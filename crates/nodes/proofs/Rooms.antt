@@ -6,8 +6,8 @@ use native.Mathlib.Nat.{mul-le-mul-left}
 use Rattle.store.specs.Meaning.{Meaning}
 use Rattle.runs.specs.Blocks.{Copyable, Placed, edit}
 use Rattle.runs.proofs.Edits.{edit-granted, edit-width}
-use Rattle.nodes.specs.Places.{Form, weight-at, key-at, child-at, breadth}
-use Rattle.nodes.specs.Nodes.{Room, Rooms}
+use Rattle.nodes.specs.Places.{Form, form, most, weight-at, key-at, child-at, breadth}
+use Rattle.nodes.specs.Nodes.{Room, Rooms, Countable, Carried, carried}
 
 pub room-same : (m n : Meaning) (φ : Form) (c : ℕ) → n ≡ m → Room φ c m → Room φ c n
 room-same m n φ c e h = subst (Room φ c) (sym e) h
@@ -38,3 +38,24 @@ rooms-copy φ f t a b len m k l h = record {
   from-wide = omega (arith, h .one .wide);
   to-wide = omega (arith, h .other .wide);
 }
+
+pub rooms-same : (m n : Meaning) (φ : Form) (b c : ℕ) → n ≡ m → Rooms φ b c m → Rooms φ b c n
+rooms-same m n φ b c e h = subst (Rooms φ b c) (sym e) h
+
+pub rooms-twice : (m n : Meaning) (φ : Form) (b : ℕ) → n ≡ m → Room φ b m → Rooms φ b b n
+rooms-twice m n φ b e h = record { one = room-same m n φ b e h; other = room-same m n φ b e h }
+
+-- a node's count can be read
+pub countable : (k b : ℕ) (m : Meaning) → m .words b 1 ≤ most → Room (form k) b m → Countable b m
+countable k b m l h = record { there = room-place (form k) b 1 m (omega arith) h; few = l }
+
+pub countable-same : (k b : ℕ) (m n : Meaning) → n ≡ m → m .words b 1 ≤ most → Room (form k) b m → Countable b n
+countable-same k b m n e l h = subst (Countable b) (sym e) (countable k b m l h)
+
+-- a copy of entries after a read
+pub carry-same : (φ : Form) (from i to j n : ℕ) (l m o : Meaning) → m ≡ l → Carried φ from i to j n m tt o → o ≡ edit l to (carried φ (l .words from) i j n)
+carry-same φ from i to j n l m o e h = h ∙ ap (λ z. edit z to (carried φ (z .words from) i j n)) e
+
+-- an edit after a read
+pub edit-same : (b : ℕ) (F : (ℕ → ℕ) → ℕ → ℕ) (l m o : Meaning) → m ≡ l → o ≡ edit m b F → o ≡ edit l b F
+edit-same b F l m o e h = h ∙ ap (λ z. edit z b F) e
