@@ -4,3 +4,5 @@ pub mod Carries
 pub mod Puts
 pub mod Words
 pub mod Lists
+pub mod Readings
+pub mod Searches

@@ -69,6 +69,11 @@ pub record Damage (b : ℕ) (m : Meaning) (f : Fault) (n : Meaning) : Type 0 whe
   pub fault : f ≡ damage b
   pub same : n ≡ m
 
+-- block b is a node
+pub record Node (φ : Form) (b : ℕ) (m : Meaning) : Type 0 where
+  pub room : Room φ b m
+  pub few : m .words b 1 ≤ φ .places
+
 -- block b is a node with an entry at place i
 pub record Has (φ : Form) (b i : ℕ) (m : Meaning) : Type 0 where
   pub room : Room φ b m
