@@ -6,3 +6,4 @@ pub mod Words
 pub mod Lists
 pub mod Readings
 pub mod Searches
+pub mod Heads

@@ -49,15 +49,19 @@ filled-none m b a ws =
     let none : splice (m .words b) a (a + 0) f ≡ m .words b = ap (λ z. splice (m .words b) a z f) (omega arith) ∙ splice-none (m .words b) a f in
     sym (ap (with-block m b) none ∙ block-self m b)
 
-pub filled-more : (m u n : Meaning) (b a i x : ℕ) (ws : List ℕ) → x ≡ getD ws i 0 → u ≡ edit m b (filled a ws i) → SetDone u b (a + i) x n → n ≡ edit m b (filled a ws (i + 1))
+pub filled-step : (m u n : Meaning) (b a i x : ℕ) (ws : List ℕ) → x ≡ getD ws i 0 → u ≡ edit m b (filled a ws i) → n ≡ edit u b (λ β. with-at β (a + i) x) → n ≡ edit m b (filled a ws (i + 1))
 unfolding edit filled
-filled-more m u n b a i x ws read inv put =
+filled-step m u n b a i x ws read inv put =
     let f : ℕ → ℕ = λ p. getD ws (p - a) 0 in
     let value : x ≡ f (a + i) = read ∙ ap (λ z. getD ws z 0) (omega arith) in
-    word-over m u n b (a + i) x _ inv (put .after)
+    word-over m u n b (a + i) x _ inv put
     ∙ ap (λ z. with-block m b (with-at (splice (m .words b) a (a + i) f) (a + i) z)) value
     ∙ ap (with-block m b) (splice-up (m .words b) a (a + i) f (omega arith))
     ∙ ap (λ z. with-block m b (splice (m .words b) a z f)) (omega arith)
+
+pub filled-more : (m u n : Meaning) (b a i x : ℕ) (ws : List ℕ) → x ≡ getD ws i 0 → u ≡ edit m b (filled a ws i) → SetDone u b (a + i) x n → n ≡ edit m b (filled a ws (i + 1))
+unfolding edit
+filled-more m u n b a i x ws read inv put = filled-step m u n b a i x ws read inv (put .after)
 
 pub pasted-in : (α β : ℕ → ℕ) (a c len p q : ℕ) → c ≤ p → p < c + len → q + c ≡ a + p → pasted α a c len β p ≡ α q
 unfolding pasted splice
