@@ -12,9 +12,10 @@ use Rattle.std.proofs.shelf.Tests.{cases-lt, cases-order}
 use Rattle.std.specs.declared.cmp.Ordering.{Ordering}
 use Rattle.std.specs.declared.cmp.Ordering.the-variants.{Less, Greater}
 use Rattle.keys.specs.Orders.{Orderly}
+use Rattle.store.specs.Meaning.{Meaning}
 use Rattle.nodes.specs.Places.{Form}
-use Rattle.nodes.specs.Nodes.{Entry, entry-at, entries, upto}
-use Rattle.nodes.specs.Finds.{Sought, Ascending, Split-at, key-of, keys-in}
+use Rattle.nodes.specs.Nodes.{Entry, entry-at, entries, upto, Keyed}
+use Rattle.nodes.specs.Finds.{Sought, Ascending, Split-at, Found, key-of, keys-in}
 use Rattle.nodes.proofs.Upto.{length-upto, getD-upto, take-upto, drop-upto}
 
 -- of two places the earlier has the lesser key
@@ -86,3 +87,12 @@ module _ {K : Type 0} (order : K → K → Ordering) (key : ℕ → K) (n : ℕ)
   between-met l m h =
       let e : high ≡ low = omega arith in
       record { within = omega (arith, h .within); last = h .last; next = λ x. ap (λ z. order (key z) q) (sym e) ∙ h .next (omega arith) }
+
+-- the key that was read is that of the words as the search began
+pub key-there : {K : Type 0} (φ : Form) (unpacked : List ℕ → K) (b i : ℕ) (l m n : Meaning) (x : K) → m ≡ l → Keyed φ unpacked b i m x n → x ≡ key-of φ unpacked (l .words b) i
+key-there φ unpacked b i l m n x e h = h .value ∙ ap (λ z. key-of φ unpacked (z .words b) i) e
+
+pub found : {K : Type 0} (order : K → K → Ordering) (law : Orderly order) (φ : Form) (unpacked : List ℕ → K) (b : ℕ) (q : K) (r : ℕ) (m u n : Meaning) → u ≡ m → n ≡ u → Sought order (key-of φ unpacked (u .words b)) (u .words b 1) q r → Found φ order unpacked b q m r n
+found order law φ unpacked b q r m u n e d h =
+    let s = subst (λ z. Sought order (key-of φ unpacked (z .words b)) (z .words b 1) q r) e h in
+    record { same = d ∙ e; sought = s; split = split-node order law φ unpacked (m .words b) q r s }
