@@ -4,7 +4,7 @@ use Prim.Native.Nat.{ℕ, _+_, _-_, _*_, _<_, _≤_}
 use native.Mathlib.Omega.{arith}
 use native.Mathlib.Nat.{mul-le-mul-left}
 use Rattle.store.specs.Meaning.{Meaning}
-use Rattle.runs.specs.Blocks.{Copyable, Placed, edit}
+use Rattle.runs.specs.Blocks.{Copyable, Word, edit}
 use Rattle.runs.proofs.Edits.{edit-granted, edit-width}
 use Rattle.nodes.specs.Places.{Form, form, most, weight-at, key-at, child-at, breadth}
 use Rattle.nodes.specs.Nodes.{Room, Rooms, Countable, Carried, carried}
@@ -20,7 +20,7 @@ room-edit m n b c φ F e h =
 pub rooms-edit : (m n : Meaning) (a b c : ℕ) (φ : Form) (F : (ℕ → ℕ) → ℕ → ℕ) → n ≡ edit m a F → Rooms φ b c m → Rooms φ b c n
 rooms-edit m n a b c φ F e h = record { one = room-edit m n a b φ F e (h .one); other = room-edit m n a c φ F e (h .other) }
 
-pub room-place : (φ : Form) (b p : ℕ) (m : Meaning) → p < breadth φ → Room φ b m → Placed b p m
+pub room-place : (φ : Form) (b p : ℕ) (m : Meaning) → p < breadth φ → Room φ b m → Word b p m
 room-place φ b p m l h = record { granted = h .granted; within = omega (arith, h .wide) }
 
 -- a place of a key's words

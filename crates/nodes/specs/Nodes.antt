@@ -6,7 +6,7 @@ use Prim.Native.Nat.{ℕ, _+_, _-_, _*_, _≤_, _<_}
 use lib.ListN.{take, drop}
 use Rattle.std.specs.Iters.{counting}
 use Rattle.store.specs.Meaning.{Meaning, with-at, with-block}
-use Rattle.runs.specs.Blocks.{Placed, edit, pasted, filled}
+use Rattle.runs.specs.Blocks.{Word, edit, pasted, filled}
 use Rattle.store.specs.declared.fault.Fault.{Fault}
 use Rattle.nodes.specs.declared.entry.Entry.{Entry as Coded}
 use Rattle.nodes.specs.Places.{Form, most, weight-at, key-at, child-at, breadth, block-number, damage}
@@ -56,12 +56,12 @@ placed φ i e β = with-at (filled (key-at φ i) (e .key) (φ .words) (with-at �
 
 -- block b has a count, and it is no more than a node may have
 pub record Countable (b : ℕ) (m : Meaning) : Type 0 where
-  pub there : Placed b 1 m
+  pub there : Word b 1 m
   pub few : m .words b 1 ≤ most
 
 -- block b has a count, and it is more
 pub record Overfull (b : ℕ) (m : Meaning) : Type 0 where
-  pub there : Placed b 1 m
+  pub there : Word b 1 m
   pub many : most < m .words b 1
 
 -- refused since the words of block b are no node's, and nothing changed

@@ -55,8 +55,8 @@ pub fn replace_entry<K: Key, S: Store>(
 ) -> Result<(), Fault>
     ensures { λ r. ⌜ Leaves meaning ready (Work (Has (form width) block i) (Changed (form width) block (replace-at i (entry-of packed (now (entry .entry)))))) (now (store .entry)) r (now (store .exit)) ⌝ }
 {
-    let n = count(store, block)?;
-    if i >= n {
+    let held = count(store, block)?;
+    if i >= held {
         return Err(damaged(block));
     }
     put_entry(store, block, i, entry)

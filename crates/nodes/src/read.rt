@@ -2,7 +2,7 @@
 ghost use Prim.Native.Nat.{_<_, _≤_};
 ghost use Rattle.store.specs.Calls.{Leaves};
 ghost use Rattle.runs.specs.Work.{Work, Fails};
-ghost use Rattle.runs.specs.Blocks.{Placed, Read};
+ghost use Rattle.runs.specs.Blocks.{Word, Read};
 ghost use Rattle.nodes.specs.Places.{form, weight-at};
 ghost use Rattle.nodes.specs.Nodes.{Room, Countable, Overfull, Damage, Weighs, Keyed, Leads, Leads-to};
 ghost use Rattle.std.specs.declared.result.Result.the-variants.{Ok, Err};
@@ -33,7 +33,7 @@ pub fn count<S: Store>(store: &mut S, block: u32) -> Result<u32, Fault>
 // The weight of entry i.
 pub fn entry_weight<S: Store>(store: &mut S, block: u32, i: u32) -> Result<u64, Fault>
     requires { ⌜ i < 80 ⌝ }
-    ensures { λ r. ⌜ Leaves meaning ready (Work (Placed block (weight-at i)) (Weighs block i)) (now (store .entry)) r (now (store .exit)) ⌝ }
+    ensures { λ r. ⌜ Leaves meaning ready (Work (Word block (weight-at i)) (Weighs block i)) (now (store .entry)) r (now (store .exit)) ⌝ }
 {
     store.get(block, weight_at(i))
 }

@@ -9,7 +9,7 @@ use Rattle.std.proofs.shelf.Ways.{tells}
 use Rattle.store.specs.declared.fault.Fault.{Fault}
 use Rattle.store.specs.Meaning.{Meaning, count, with-at, with-block}
 use Rattle.store.specs.Calls.{GetDone, SetDone, WordFails, Lost}
-use Rattle.runs.specs.Blocks.{Copyable, Placed, edit, splice, pasted}
+use Rattle.runs.specs.Blocks.{Copyable, Word, edit, splice, pasted}
 use Rattle.runs.proofs.Changes.{splice-none, splice-up, splice-down, block-self, word-over}
 use Rattle.runs.proofs.Exits.{Kin, lost-later, word-lost}
 

@@ -11,7 +11,7 @@ use Rattle.std.proofs.shelf.Tests.{cases-lt, cases-eq}
 use Rattle.std.proofs.shelf.Ways.{tells}
 use Rattle.store.specs.Meaning.{Meaning, with-at, with-block}
 use Rattle.store.specs.Calls.{SetDone}
-use Rattle.runs.specs.Blocks.{edit, splice, pasted, filled, Placed}
+use Rattle.runs.specs.Blocks.{edit, splice, pasted, filled, Word}
 use Rattle.runs.proofs.Changes.{with-at-here, with-at-other, splice-none, splice-up, block-self, block-over, word-over}
 
 -- what an edit leaves

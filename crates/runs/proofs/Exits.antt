@@ -14,7 +14,7 @@ use Rattle.store.specs.Meaning.{Meaning, Fell, count, with-at}
 use Rattle.store.specs.Calls.{WordFails, GetDone, SetDone, Get, Set, Deep, Lost}
 use Rattle.store.specs.Calls.WordFails.{word-down, word-missing, word-outside}
 use Rattle.runs.specs.Work.{Work}
-use Rattle.runs.specs.Blocks.{Placed, Read, Edited, edit}
+use Rattle.runs.specs.Blocks.{Word, Read, Edited, edit}
 
 err-is : {T E : Type 0} (r : Result T E) (e : E) → ErrBy r (λ y. y ≡ e) → r ≡ Err e
 err-is (Ok x) e h = absurd h
@@ -51,12 +51,12 @@ lost-later k h = record {
 }
 
 -- a call on a word that is there fails only by 'down'
-word-falls : {r : Refusal} {at b place : ℕ} {m n : Meaning} → Placed b place m → WordFails b place r at m n → (r ≡ Down) × Fell m n
+word-falls : {r : Refusal} {at b place : ℕ} {m n : Meaning} → Word b place m → WordFails b place r at m n → (r ≡ Down) × Fell m n
 word-falls p (word-down e f) = (e, f)
 word-falls p (word-missing e a f k) = absurd (both-ways _ f (p .granted))
 word-falls p (word-outside e a h f k) = absurd (omega (arith, p .within))
 
-pub word-lost : {m n : Meaning} {f : Fault} {b place : ℕ} → Placed b place m → WordFails b place (f .refusal) (f .block) m n → f .depth ≡ m .shape .depth (f .refusal) (count m) → Lost m f n
+pub word-lost : {m n : Meaning} {f : Fault} {b place : ℕ} → Word b place m → WordFails b place (f .refusal) (f .block) m n → f .depth ≡ m .shape .depth (f .refusal) (count m) → Lost m f n
 word-lost {m} p w d =
     let q = word-falls p w in
     record {
@@ -73,12 +73,12 @@ unfolding edit
 set-edit m n b p x h = h .after
 
 -- a word set, as work
-pub set-work : (m n : Meaning) (b p x : ℕ) (r : Result (Unit {0}) Fault) → Set b p x m r n → Deep m r → Work (Placed b p) (Edited b (λ β. with-at β p x)) m r n
+pub set-work : (m n : Meaning) (b p x : ℕ) (r : Result (Unit {0}) Fault) → Set b p x m r n → Deep m r → Work (Word b p) (Edited b (λ β. with-at β p x)) m r n
 set-work m n b p x (Ok _) h d = λ k. set-edit m n b p x h
 set-work m n b p x (Err f) h d = λ k. word-lost k h d
 
 -- a word read, as work
-pub get-work : (m n : Meaning) (b p : ℕ) (r : Result ℕ Fault) → Get b p m r n → Deep m r → Work (Placed b p) (Read b p) m r n
+pub get-work : (m n : Meaning) (b p : ℕ) (r : Result ℕ Fault) → Get b p m r n → Deep m r → Work (Word b p) (Read b p) m r n
 get-work m n b p (Ok v) h d = λ k. record { value = h .value; same = h .same }
 get-work m n b p (Err f) h d = λ k. word-lost k h d
 

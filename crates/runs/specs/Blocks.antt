@@ -7,8 +7,8 @@ use lib.Dec.{ltb, leb}
 use lib.ListN.{getD}
 use Rattle.store.specs.Meaning.{Meaning, with-block}
 
--- block b is granted and has this place
-pub record Placed (b place : ℕ) (m : Meaning) : Type 0 where
+-- block b is granted and has a word at this place
+pub record Word (b place : ℕ) (m : Meaning) : Type 0 where
   pub granted : m .granted b ≡ true
   pub within : place < m .shape .width
 

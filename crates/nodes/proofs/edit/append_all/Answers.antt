@@ -2,7 +2,7 @@ use Prim.Native.Nat.{_+_}
 use mathlib.Core.Path.{_≡_, ap, _∙_}
 use native.Mathlib.Omega.{arith}
 use Rattle.store.specs.Meaning.{with-at}
-use Rattle.runs.specs.Blocks.{Placed, Edited}
+use Rattle.runs.specs.Blocks.{Word, Edited}
 use Rattle.runs.proofs.Exits.{raised, lost-later, kin-same, kin-edit, set-work, work-on}
 use Rattle.runs.proofs.Edits.{edit-then}
 use Rattle.nodes.specs.Places.{form}
@@ -62,7 +62,7 @@ returns g c h =
     let more-is = λ (p : Joinable φ from to m). two p .value ∙ ap (λ z. z .words from 1) (one p .same) in
     let three = λ (p : Joinable φ from to m). carry-same φ from 0 to kept more _ _ _ (same p) (d .call (rooms-same _ _ _ _ _ (same p) (p .rooms))) in
     record {
-      call = work-on (Joinable φ from to) (Placed to 1) (Joined φ from to) (Edited to (λ β. with-at β 1 (kept + more))) m _ _ _
+      call = work-on (Joinable φ from to) (Word to 1) (Joined φ from to) (Edited to (λ β. with-at β 1 (kept + more))) m _ _ _
           (λ p. room-place φ _ _ _ (omega arith) (room-edit _ _ _ _ _ _ (three p) (p .rooms .other)))
           (λ p. kin-edit _ _ _ _ (three p))
           (λ _ p y. append-holds φ _ _ _ _ _ _ (one p .value) (more-is p) (omega (arith, p .fits, one p .value, more-is p)) (edit-then _ _ _ _ _ _ (three p) y))

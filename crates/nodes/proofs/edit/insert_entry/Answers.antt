@@ -2,7 +2,7 @@ use Prim.Native.Nat.{_+_, _-_}
 use mathlib.Core.Logic.{⊎-elim}
 use native.Mathlib.Omega.{arith}
 use Rattle.store.specs.Meaning.{with-at}
-use Rattle.runs.specs.Blocks.{Placed, Edited}
+use Rattle.runs.specs.Blocks.{Word, Edited}
 use Rattle.runs.proofs.Exits.{raised, lost-later, kin-same, kin-edit, set-work, work-on}
 use Rattle.runs.proofs.Edits.{edit-then}
 use Rattle.nodes.specs.Places.{form}
@@ -60,7 +60,7 @@ returns g c h =
     let one = λ (p : Open φ b i m). carry-same φ b i b (i + 1) (n - i) _ _ _ (read p .same) (a .call (rooms-twice _ _ _ _ (read p .same) (p .room))) in
     let two = λ (p : Open φ b i m). edit-then _ _ _ _ _ _ (one p) (w .call (room-edit _ _ _ _ _ _ (one p) (p .room))) in
     record {
-      call = work-on (Open φ b i) (Placed b 1) (Changed φ b (insert-at i x)) (Edited b (λ β. with-at β 1 (n + 1))) m _ _ _
+      call = work-on (Open φ b i) (Word b 1) (Changed φ b (insert-at i x)) (Edited b (λ β. with-at β 1 (n + 1))) m _ _ _
           (λ p. room-place φ _ _ _ (omega arith) (room-edit _ _ _ _ _ _ (two p) (p .room)))
           (λ p. kin-edit _ _ _ _ (two p))
           (λ _ p y. insert-holds φ _ _ _ _ _ x (read p .value) (g .K·Key·met .packing .long (c .args .entry .now .key)) (omega (arith, p .upto, read p .value)) (omega (arith, p .free, read p .value)) (edit-then _ _ _ _ _ _ (two p) y))

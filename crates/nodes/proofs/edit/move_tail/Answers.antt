@@ -2,7 +2,7 @@ use Prim.Native.Nat.{_+_, _-_}
 use mathlib.Core.Path.{_≡_, ap, _∙_}
 use native.Mathlib.Omega.{arith}
 use Rattle.store.specs.Meaning.{with-at}
-use Rattle.runs.specs.Blocks.{Placed, Edited}
+use Rattle.runs.specs.Blocks.{Word, Edited}
 use Rattle.runs.proofs.Exits.{raised, lost-later, kin-same, kin-edit, word-lost, set-edit, set-work, work-on}
 use Rattle.runs.proofs.Edits.{edit-then}
 use Rattle.nodes.specs.Places.{form}
@@ -91,7 +91,7 @@ returns g c h =
     let two = λ (p : Partable φ from to at m). edit-then _ _ _ _ _ _ (one p) (set-edit _ _ _ _ _ (s .call)) in
     let three = λ (p : Partable φ from to at m). edit-then _ _ _ _ _ _ (two p) (set-edit _ _ _ _ _ (s′ .call)) in
     record {
-      call = work-on (Partable φ from to at) (Placed from 1) (Parted φ from to at) (Edited from (λ β. with-at β 1 at)) m _ _ _
+      call = work-on (Partable φ from to at) (Word from 1) (Parted φ from to at) (Edited from (λ β. with-at β 1 at)) m _ _ _
           (λ p. room-place φ _ _ _ (omega arith) (room-edit _ _ _ _ _ _ (three p) (p .rooms .one)))
           (λ p. kin-edit _ _ _ _ (three p))
           (λ _ p y. part-holds φ _ _ _ _ _ _ _ _ (p .apart) (a .call .value) (n-is p) (omega (arith, p .upto, n-is p)) (omega (arith, p .few, n-is p)) (three p) y)

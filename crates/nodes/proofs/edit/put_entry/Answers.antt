@@ -1,6 +1,6 @@
 use native.Mathlib.Omega.{arith}
 use Rattle.store.specs.Meaning.{with-at}
-use Rattle.runs.specs.Blocks.{Placed, Edited}
+use Rattle.runs.specs.Blocks.{Word, Edited}
 use Rattle.runs.proofs.Exits.{raised, lost-later, kin-edit, word-lost, set-edit, set-work, work-on}
 use Rattle.nodes.specs.Places.{form}
 use Rattle.nodes.specs.Nodes.{Room, entry-of, placed}
@@ -35,7 +35,7 @@ returns g c h =
     let one = set-edit _ _ _ _ _ (a .call) in
     let two = λ (p : Room φ b m). placed-two φ _ (c .args .i) _ _ x _ _ _ one (k .call (room-edit _ _ _ _ _ _ one p)) in
     record {
-      call = work-on (Room φ b) (Placed b (c .child-at .result)) (Edited b (placed φ (c .args .i) x)) (Edited b (λ β. with-at β (c .child-at .result) (x .child))) m _ _ _
+      call = work-on (Room φ b) (Word b (c .child-at .result)) (Edited b (placed φ (c .args .i) x)) (Edited b (λ β. with-at β (c .child-at .result) (x .child))) m _ _ _
           (λ p. room-place φ _ _ _ (omega arith) (room-edit _ _ _ _ _ _ (two p) p))
           (λ p. kin-edit _ _ _ _ (two p))
           (λ _ p y. placed-all φ _ _ _ _ x _ _ _ (c .weight-at .ensures) (c .child-at .ensures) (two p) y)

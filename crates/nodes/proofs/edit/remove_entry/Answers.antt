@@ -1,7 +1,7 @@
 use Prim.Native.Nat.{_+_, _-_}
 use native.Mathlib.Omega.{arith}
 use Rattle.store.specs.Meaning.{with-at}
-use Rattle.runs.specs.Blocks.{Placed, Edited}
+use Rattle.runs.specs.Blocks.{Word, Edited}
 use Rattle.runs.proofs.Exits.{raised, lost-later, kin-same, kin-edit, set-work, work-on}
 use Rattle.runs.proofs.Edits.{edit-then}
 use Rattle.nodes.specs.Places.{form}
@@ -47,7 +47,7 @@ returns g c h =
     let read = λ (p : Has φ b i m). r .call (countable k _ _ (p .few) (p .room)) in
     let one = λ (p : Has φ b i m). carry-same φ b (i + 1) b i (n - (i + 1)) _ _ _ (read p .same) (a .call (rooms-twice _ _ _ _ (read p .same) (p .room))) in
     record {
-      call = work-on (Has φ b i) (Placed b 1) (Changed φ b (remove-at i)) (Edited b (λ β. with-at β 1 (n - 1))) m _ _ _
+      call = work-on (Has φ b i) (Word b 1) (Changed φ b (remove-at i)) (Edited b (λ β. with-at β 1 (n - 1))) m _ _ _
           (λ p. room-place φ _ _ _ (omega arith) (room-edit _ _ _ _ _ _ (one p) (p .room)))
           (λ p. kin-edit _ _ _ _ (one p))
           (λ _ p y. remove-holds φ _ _ _ _ _ (read p .value) (omega (arith, p .has, read p .value)) (omega (arith, p .few, read p .value)) (edit-then _ _ _ _ _ _ (one p) y))

@@ -7,15 +7,15 @@ use Rattle.nodes.proofs.Rooms.{room-same, countable, edit-same}
 use Rattle.nodes.proofs.Lists.{replace-holds}
 use Rattle.nodes.proofs.edit.replace_entry.Needs as need
 
-pub returns-in-Break-n : need.returns-in-Break-n
-returns-in-Break-n g c =
+pub returns-in-Break-held : need.returns-in-Break-held
+returns-in-Break-held g c =
     rw (raised _ _ (c .from-residual .ensures)) (λ h.
-    let e = c .in-Break-n .ensures tt .counts h in
+    let e = c .in-Break-held .ensures tt .counts h in
     record { call = λ p. e .call (countable (g .K·Key .width) _ _ (p .few) (p .room)); ready = e .ready })
 
-pub returns-then-i-n : need.returns-then-i-n
-returns-then-i-n g c h =
-    let r = c .in-Continue-n .ensures tt .counts h in
+pub returns-then-i-held : need.returns-then-i-held
+returns-then-i-held g c h =
+    let r = c .in-Continue-held .ensures tt .counts h in
     record { call = λ p. absurd (omega (arith, p .has, r .call (countable (g .K·Key .width) _ _ (p .few) (p .room)) .value)); ready = r .ready }
 
 pub returns : need.returns
@@ -25,7 +25,7 @@ returns g c h =
     let b = c .args .block in
     let i = c .args .i in
     let m = g .S·Store .meaning (c .args .store .now) in
-    let r = c .in-Continue-n .ensures tt .counts h in
+    let r = c .in-Continue-held .ensures tt .counts h in
     let e = c .put-entry .ensures (r .ready) in
     let same = λ (p : Has φ b i m). r .call (countable (g .K·Key .width) _ _ (p .few) (p .room)) .same in
     record {

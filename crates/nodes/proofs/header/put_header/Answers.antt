@@ -1,7 +1,7 @@
 use mathlib.Core.Path.{refl}
 use native.Mathlib.Omega.{arith}
 use Rattle.store.specs.Meaning.{Meaning, with-at}
-use Rattle.runs.specs.Blocks.{Placed, Edited, filled}
+use Rattle.runs.specs.Blocks.{Word, Edited, filled}
 use Rattle.runs.proofs.Exits.{kin-edit, set-work, work-on}
 use Rattle.runs.proofs.Edits.{filled-none, filled-more, filled-step, edit-granted, edit-width}
 use Rattle.nodes.specs.Headers.{Headroom, header-words}
@@ -21,7 +21,7 @@ returns g c h =
     let two = filled-more m _ _ b 0 1 _ ws refl one (s′ .call) in
     let three = filled-more m _ _ b 0 2 _ ws refl two (s″ .call) in
     record {
-      call = work-on (Headroom b) (Placed b 3) (Edited b (filled 0 ws 4)) (Edited b (λ β. with-at β 3 (c .args .header .now .keys))) m _ _ _
+      call = work-on (Headroom b) (Word b 3) (Edited b (filled 0 ws 4)) (Edited b (λ β. with-at β 3 (c .args .header .now .keys))) m _ _ _
           (λ p. head-place m _ b 3 _ (omega arith) three p)
           (λ p. kin-edit _ _ _ _ three)
           (λ _ p y. filled-step m _ _ b 0 3 _ ws refl three y)

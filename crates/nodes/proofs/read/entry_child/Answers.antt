@@ -1,6 +1,6 @@
 use mathlib.Core.Path.{refl}
 use native.Mathlib.Omega.{arith}
-use Rattle.runs.specs.Blocks.{Placed, Read}
+use Rattle.runs.specs.Blocks.{Word, Read}
 use Rattle.runs.proofs.Exits.{kin-same, get-work, work-on}
 use Rattle.nodes.specs.Places.{form}
 use Rattle.nodes.specs.Nodes.{Room, Leads}
@@ -17,7 +17,7 @@ returns g c h =
     let m = g .S·Store .meaning (c .args .store .now) in
     let e = c .get .ensures .keeps h in
     record {
-      call = work-on (Room φ b) (Placed b a) (Leads φ b i) (Read b a) m _ _ _
+      call = work-on (Room φ b) (Word b a) (Leads φ b i) (Read b a) m _ _ _
           (λ p. room-place φ _ _ _ (omega arith) p)
           (λ p. kin-same refl)
           (λ _ p y. child-read φ b i a _ _ _ (c .child-at .ensures) y)

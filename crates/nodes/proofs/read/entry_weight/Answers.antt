@@ -1,4 +1,4 @@
-use Rattle.runs.specs.Blocks.{Placed, Read}
+use Rattle.runs.specs.Blocks.{Word, Read}
 use mathlib.Core.Path.{_≡_, sym, refl, subst}
 use Rattle.runs.proofs.Exits.{kin-same, get-work, work-on}
 use Rattle.nodes.specs.Places.{weight-at}
@@ -14,8 +14,8 @@ returns g c h =
     let m = g .S·Store .meaning (c .args .store .now) in
     let e = c .get .ensures .keeps h in
     record {
-      call = work-on (Placed b (weight-at i)) (Placed b a) (Weighs b i) (Read b a) m _ _ _
-          (λ p. subst (λ z. Placed b z m) (sym (c .weight-at .ensures)) p)
+      call = work-on (Word b (weight-at i)) (Word b a) (Weighs b i) (Read b a) m _ _ _
+          (λ p. subst (λ z. Word b z m) (sym (c .weight-at .ensures)) p)
           (λ p. kin-same refl)
           (λ _ p y. weight-read b i a _ _ _ (c .weight-at .ensures) y)
           (get-work _ _ _ _ _ (e .call) (e .deep));

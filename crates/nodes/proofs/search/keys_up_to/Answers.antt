@@ -41,6 +41,7 @@ returns-in-Break-high g c =
       finds = λ h.
           let e = c .in-Break-high .ensures tt .counts h in
           record { call = λ p. e .call (countable (g .K·Key .width) _ _ (p .few) (p .room)); ready = e .ready };
+      refuses = λ h. c .in-Break-high .ensures tt .refuses h;
     })
 
 pub returns-in-Break-key : need.returns-in-Break-key
@@ -58,6 +59,9 @@ returns-in-Break-key g c =
                 lost-later (kin-same (s .0 ∙ r .same)) (e .call (room-same _ _ _ _ (s .0 ∙ r .same) (p .room)));
             ready = e .ready;
           };
+      refuses = λ h.
+          let a = c .in-Continue-high .ensures tt .refuses h in
+          record { call = λ p. absurd (a .call p); ready = c .in-Break-key .ensures tt (c .loop-low .inv .2 (a .ready) .ready) .ready };
     })
 
 pub returns : need.returns
@@ -73,4 +77,7 @@ returns g c = record {
             found (g .K·Key .order) (g .K·Key·met .ordered) (form (g .K·Key .width)) (g .K·Key .unpacked) _ _ _ _ _ _ (r .same) (s .0) (between-met _ _ _ _ _ _ (c .loop-low .inv .0) (c .loop-low-test .left) (s .1));
         ready = i .ready;
       };
+  refuses = λ h.
+      let a = c .in-Continue-high .ensures tt .refuses h in
+      record { call = a .call; ready = c .loop-low .inv .2 (a .ready) .ready };
 }
