@@ -1,6 +1,7 @@
 // Where the parts of a node stand in its block.
 ghost use mathlib.Core.Path.{_≡_};
-ghost use Prim.Native.Nat.{ℕ, _+_, _*_, _≤_};
+ghost use Prim.Native.Nat.{_≤_};
+ghost use Rattle.nodes.specs.Places.{form, weight-at, key-at, child-at, breadth, block-number, damage};
 use keys::key::Key;
 use store::fault::Fault;
 use store::fault::Refusal;
@@ -17,14 +18,16 @@ pub const LEVEL_AT: u32 = 0;
 pub const COUNT_AT: u32 = 1;
 
 // How many words a block must have for a node of this kind of key.
-pub fn block_width<K: Key>() -> u32 {
+pub fn block_width<K: Key>() -> u32
+    ensures { λ r. ⌜ r ≡ breadth (form width) ⌝ }
+{
     162 + 80 * K::words()
 }
 
 // Where the weight of entry i stands.
 pub fn weight_at(i: u32) -> u32
     requires { ⌜ i ≤ 80 ⌝ }
-    ensures { λ r. ⌜ r ≡ 2 + i ⌝ }
+    ensures { λ r. ⌜ r ≡ weight-at i ⌝ }
 {
     2 + i
 }
@@ -32,7 +35,7 @@ pub fn weight_at(i: u32) -> u32
 // Where the key of entry i begins.
 pub fn key_at<K: Key>(i: u32) -> u32
     requires { ⌜ i ≤ 80 ⌝ }
-    ensures { λ r. ⌜ r ≤ 402 ⌝ }
+    ensures { λ r. ⌜ r ≡ key-at (form width) i ⌝ }
 {
     82 + K::words() * i
 }
@@ -40,13 +43,15 @@ pub fn key_at<K: Key>(i: u32) -> u32
 // Where the child or handle of entry i stands.
 pub fn child_at<K: Key>(i: u32) -> u32
     requires { ⌜ i ≤ 80 ⌝ }
-    ensures { λ r. ⌜ r ≤ 482 ⌝ }
+    ensures { λ r. ⌜ r ≡ child-at (form width) i ⌝ }
 {
     82 + 80 * K::words() + i
 }
 
 // A stored word as a block number: 0, which no store grants, where it is none.
-pub fn block_of(word: u64) -> u32 {
+pub fn block_of(word: u64) -> u32
+    ensures { λ r. ⌜ r ≡ block-number word ⌝ }
+{
     if word <= LARGEST_BLOCK as u64 {
         word as u32
     } else {
@@ -55,7 +60,9 @@ pub fn block_of(word: u64) -> u32 {
 }
 
 // The words of a block are no node's.
-pub fn damaged(block: u32) -> Fault {
+pub fn damaged(block: u32) -> Fault
+    ensures { λ r. ⌜ r ≡ damage block ⌝ }
+{
     Fault {
         refusal: Refusal::Damaged,
         block,

@@ -1,0 +1,4 @@
+pub mod Places
+pub mod Nodes
+pub mod Finds
+pub mod Headers

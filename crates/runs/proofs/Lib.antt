@@ -1,0 +1,4 @@
+pub mod Changes
+pub mod Exits
+pub mod Copies
+pub mod Edits

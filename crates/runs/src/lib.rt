@@ -1,0 +1,2 @@
+// Runs of words copied between blocks of any store, and what work of several store calls promises.
+pub mod copy;
