@@ -1,11 +1,13 @@
 // A block store in two lent runs: the words of all blocks, one block after another, and a mark for each block.
 // The mark of a granted block is not 0. Block b has the mark b - 1 and the words from (b - 1) * width on.
 ghost use mathlib.Core.Path.{_≡_};
-ghost use Prim.Native.Nat.{ℕ, _<_, _≤_};
+ghost use Prim.Native.Nat.{ℕ, _+_, _-_, _*_, _<_, _≤_, min};
 ghost use denote.Ref.{now};
-ghost use lib.ListN.{getD};
-ghost use Rattle.stores.specs.Table.{in-use};
+ghost use lib.ListN.{getD, set};
+ghost use Rattle.store.specs.Meaning.{count-to};
+ghost use Rattle.stores.specs.Table.{in-use, cleared, unmarked};
 ghost use Rattle.stores.specs.Opened.{means, Ready, FreshOr, ReopenedOr, StillMeans};
+ghost use Rattle.stores.specs.Steps.{Becomes, OverOr, Located};
 ghost use Rattle.stores.specs.Laws.Tables.{fits-sound};
 use crate::runs::clear;
 use crate::runs::clear_marks;
@@ -59,23 +61,9 @@ impl<'a> TableStore<'a> {
     ) -> Result<TableStore<'a>, Unfit<'a>>
         ensures { λ r. ⌜ FreshOr width (now (marks .entry)) (now (words .entry)) r ⌝ }
     {
-        if width == 0 || width > WIDEST {
-            return Err(Unfit {
-                fault: Fault::own(Refusal::Misfit, 0),
-                words,
-                marks,
-            });
-        }
-        let capacity = most(width, marks.len(), words.len());
-        clear_marks(marks, capacity);
-        Ok(TableStore {
-            words,
-            marks,
-            width,
-            capacity,
-            granted: 0,
-            rover: 0,
-        })
+        let mut store = TableStore::over(words, marks, width)?;
+        store.unmark();
+        Ok(store)
     }
 
     // A store over runs as they were left: its grants are those that the marks tell.
@@ -86,23 +74,9 @@ impl<'a> TableStore<'a> {
     ) -> Result<TableStore<'a>, Unfit<'a>>
         ensures { λ r. ⌜ ReopenedOr width (now (marks .entry)) (now (words .entry)) r ⌝ }
     {
-        if width == 0 || width > WIDEST {
-            return Err(Unfit {
-                fault: Fault::own(Refusal::Misfit, 0),
-                words,
-                marks,
-            });
-        }
-        let capacity = most(width, marks.len(), words.len());
-        let granted = count_marks(marks, capacity);
-        Ok(TableStore {
-            words,
-            marks,
-            width,
-            capacity,
-            granted,
-            rover: 0,
-        })
+        let mut store = TableStore::over(words, marks, width)?;
+        store.recount();
+        Ok(store)
     }
 
     // Ends the store, and yields its runs.
@@ -130,16 +104,82 @@ impl<'a> TableStore<'a> {
         TableStore::reopen(words, marks, width)
     }
 
+    // A store over the runs as they are, before its grants are known.
+    fn over(
+        words: &'a mut [u64],
+        marks: &'a mut [u8],
+        width: u32,
+    ) -> Result<TableStore<'a>, Unfit<'a>>
+        ensures { λ r. ⌜ OverOr width (now (marks .entry)) (now (words .entry)) r ⌝ }
+    {
+        if width == 0 || width > WIDEST {
+            return Err(Unfit {
+                fault: Fault::own(Refusal::Misfit, 0),
+                words,
+                marks,
+            });
+        }
+        let capacity = most(width, marks.len(), words.len());
+        Ok(TableStore {
+            words,
+            marks,
+            width,
+            capacity,
+            granted: 0,
+            rover: 0,
+        })
+    }
+
+    // Clears the mark of each block.
+    fn unmark(&mut self)
+        ensures { λ _. ⌜ Becomes (now (self .entry)) (now (self .exit)) (now (self .entry) .granted) (unmarked (now (self .entry) .capacity) (now (now (self .entry) .marks))) (now (now (self .entry) .words)) ⌝ }
+    {
+        let capacity = self.capacity;
+        clear_marks(self.marks, capacity);
+    }
+
+    // Counts the grants anew.
+    fn recount(&mut self)
+        ensures { λ _. ⌜ Becomes (now (self .entry)) (now (self .exit)) (count-to (in-use (now (self .entry) .capacity) (now (now (self .entry) .marks))) (now (self .entry) .capacity)) (now (now (self .entry) .marks)) (now (now (self .entry) .words)) ⌝ }
+    {
+        self.granted = self.count();
+    }
+
+    fn count(&self) -> u32
+        ensures { λ r. ⌜ r ≡ count-to (in-use (now (self .entry) .capacity) (now (now (self .entry) .marks))) (now (self .entry) .capacity) ⌝ }
+    {
+        count_marks(self.marks, self.capacity)
+    }
+
     fn is_granted(&self, block: u32) -> bool
         ensures { λ r. ⌜ r ≡ in-use (now (self .entry) .capacity) (now (now (self .entry) .marks)) block ⌝ }
     {
         marked(self.marks, self.capacity, block)
     }
 
+    // Where a word of a granted block stands in the run.
+    fn locate(&self, block: u32, place: u32) -> Result<usize, Fault>
+        ensures { λ r. ⌜ Located (now (self .entry)) block place r ⌝ }
+    {
+        if !self.is_granted(block) {
+            return Err(Fault::own(Refusal::NotGranted, block));
+        }
+        if place >= self.width {
+            return Err(Fault::own(Refusal::Outside, block));
+        }
+        Ok((block as usize - 1) * self.width as usize + place as usize)
+    }
+
     fn word(&self, at: usize) -> u64
         ensures { λ r. ⌜ r ≡ getD (now (now (self .entry) .words)) at 0 ⌝ }
     {
         word_at(self.words, at)
+    }
+
+    fn put(&mut self, at: usize, word: u64)
+        ensures { λ _. ⌜ Becomes (now (self .entry)) (now (self .exit)) (now (self .entry) .granted) (now (now (self .entry) .marks)) (set (now (now (self .entry) .words)) at word) ⌝ }
+    {
+        put_word(self.words, at, word);
     }
 
     // A free place, the first from the rover on, else the first of all; or the capacity, if none is free.
@@ -153,6 +193,35 @@ impl<'a> TableStore<'a> {
             return place;
         }
         free_mark(self.marks, 0, self.capacity)
+    }
+
+    // Marks a free place, and clears its words.
+    fn grant(&mut self, place: u32)
+        ensures { λ _. ⌜ Becomes (now (self .entry)) (now (self .exit)) (min (now (self .entry) .granted + 1) 4294967295) (set (now (now (self .entry) .marks)) place 1) (cleared (place * now (self .entry) .width) (now (self .entry) .width) (now (now (self .entry) .words))) ⌝ }
+    {
+        let width = self.width as usize;
+        clear(self.words, place as usize * width, width);
+        put_mark(self.marks, place as usize, 1);
+        self.granted = self.granted.saturating_add(1);
+        self.rover = place.saturating_add(1);
+    }
+
+    // Takes a place's mark away.
+    fn release(&mut self, place: u32)
+        ensures { λ _. ⌜ Becomes (now (self .entry)) (now (self .exit)) (now (self .entry) .granted - 1) (set (now (now (self .entry) .marks)) place 0) (now (now (self .entry) .words)) ⌝ }
+    {
+        put_mark(self.marks, place as usize, 0);
+        self.granted = self.granted.saturating_sub(1);
+    }
+
+    fn holding(&self) -> Stock
+        ensures { λ r. ⌜ r ≡ record { width = now (self .entry) .width; granted = now (self .entry) .granted; capacity = now (self .entry) .capacity } ⌝ }
+    {
+        Stock {
+            width: self.width,
+            granted: self.granted,
+            capacity: self.capacity,
+        }
     }
 }
 
@@ -169,13 +238,10 @@ pub impl<'a> Store for TableStore<'a> as TableStoreStore {
         }
         let place = self.free_place();
         if place >= self.capacity {
+            // never so in a ready store
             return Err(Fault::own(Refusal::NoRoom, 0));
         }
-        let width = self.width as usize;
-        clear(self.words, place as usize * width, width);
-        put_mark(self.marks, place as usize, 1);
-        self.granted += 1;
-        self.rover = place + 1;
+        self.grant(place);
         Ok(place + 1)
     }
 
@@ -183,40 +249,23 @@ pub impl<'a> Store for TableStore<'a> as TableStoreStore {
         if !self.is_granted(block) {
             return Err(Fault::own(Refusal::NotGranted, block));
         }
-        put_mark(self.marks, block as usize - 1, 0);
-        self.granted = self.granted.saturating_sub(1);
+        self.release(block - 1);
         Ok(())
     }
 
     fn get(&mut self, block: u32, place: u32) -> Result<u64, Fault> {
-        if !self.is_granted(block) {
-            return Err(Fault::own(Refusal::NotGranted, block));
-        }
-        if place >= self.width {
-            return Err(Fault::own(Refusal::Outside, block));
-        }
-        let at = (block as usize - 1) * self.width as usize + place as usize;
+        let at = self.locate(block, place)?;
         Ok(self.word(at))
     }
 
     fn set(&mut self, block: u32, place: u32, word: u64) -> Result<(), Fault> {
-        if !self.is_granted(block) {
-            return Err(Fault::own(Refusal::NotGranted, block));
-        }
-        if place >= self.width {
-            return Err(Fault::own(Refusal::Outside, block));
-        }
-        let at = (block as usize - 1) * self.width as usize + place as usize;
-        put_word(self.words, at, word);
+        let at = self.locate(block, place)?;
+        self.put(at, word);
         Ok(())
     }
 
     fn stock(&mut self) -> Result<Stock, Fault> {
-        Ok(Stock {
-            width: self.width,
-            granted: self.granted,
-            capacity: self.capacity,
-        })
+        Ok(self.holding())
     }
 }
 
