@@ -25,7 +25,7 @@ use Rattle.stores.specs.declared.table.TableStore.{TableStore}
 use Rattle.stores.specs.declared.table.Unfit.{Unfit}
 use Rattle.stores.specs.Table.{in-use, table, blank, most-blocks, cleared, unmarked, Fits}
 use Rattle.stores.specs.Opened.{means, Ready, Fresh, Reopened, ReopenedOr, StillMeans}
-use Rattle.stores.specs.Steps.{Becomes, Over, Found, Missed}
+use Rattle.stores.specs.Steps.{Becomes, Put, Granting, Releasing, Unmarking, Recounting, Over, Found, Missed}
 use Rattle.stores.specs.Laws.Clearing.{cleared-length}
 use Rattle.stores.specs.Laws.Tables.{used-parts, free-from, block-end, word-used, table-set, table-give, table-take, table-blank, count-blank, count-capacity, count-marked, most-fits}
 
@@ -79,7 +79,7 @@ module _ {w c g : ℕ} {marks ws : List ℕ} (f : Fits w c g marks ws) where
       counted = omega (arith, one-less);
     }
 
-  -- a block taken, at the place p
+  -- a block taken, at the slot p
   module _ (p : ℕ) (low : p < c) (unused : getD marks p 0 ≡ 0) where
     back : p ≡ p + 1 - 1
     back = omega arith
@@ -132,7 +132,7 @@ module _ (s : TableStore) (f : Ready s) where
   }
 
   -- a word changed
-  pub put : {t : TableStore} {b place at v : ℕ} → Found s b place at → Becomes s t (s .granted) (now (s .marks)) (set (now (s .words)) at v) → Told (SetDone (means s) b place v (means t)) (Unit {0}) (Ready t)
+  pub put : {t : TableStore} {b place at v : ℕ} → Found s b place at → Put s at v t → Told (SetDone (means s) b place v (means t)) (Unit {0}) (Ready t)
   put {b = b} {place} {at} {v} h d =
       let l = used-parts (s .capacity) (now (s .marks)) b (h .granted) in
       record {
@@ -153,7 +153,7 @@ module _ (s : TableStore) (f : Ready s) where
   missing-block e = give-missing refl refl e (up (means s) refl)
 
   -- a block given back
-  pub gave : {t : TableStore} {b : ℕ} → in-use (s .capacity) (now (s .marks)) b ≡ true → Becomes s t (s .granted - 1) (set (now (s .marks)) (b - 1) 0) (now (s .words)) → Told (GiveDone (means s) b (means t)) (Unit {0}) (Ready t)
+  pub gave : {t : TableStore} {b : ℕ} → in-use (s .capacity) (now (s .marks)) b ≡ true → Releasing s (b - 1) t → Told (GiveDone (means s) b (means t)) (Unit {0}) (Ready t)
   gave {b = b} e d = record {
     call = record {
       was-up = refl;
@@ -168,15 +168,15 @@ module _ (s : TableStore) (f : Ready s) where
   pub no-room : s .capacity ≤ s .granted → TakeFails NoRoom 0 (means s) (means s)
   no-room h = take-full refl refl (omega (arith, f .counted)) (up (means s) refl)
 
-  -- while there is room, a free place is below the capacity
-  pub place-below : (p : ℕ) → p ≤ s .capacity → ((k : ℕ) → s .capacity ≤ p → k < p → getD (now (s .marks)) k 0 ≡ 0 → ⊥) → s .granted < s .capacity → p < s .capacity
-  place-below p h used few =
+  -- while there is room, a free slot is below the capacity
+  pub slot-below : (p : ℕ) → p ≤ s .capacity → ((k : ℕ) → s .capacity ≤ p → k < p → getD (now (s .marks)) k 0 ≡ 0 → ⊥) → s .granted < s .capacity → p < s .capacity
+  slot-below p h used few =
       ⊎-elim (λ l. l)
       (λ (l : s .capacity ≤ p). let n = count-marked (s .capacity) (now (s .marks)) (room f .0) (λ k q. used k l (omega arith)) in absurd (omega (arith, n, f .counted)))
       (cases-lt p (s .capacity))
 
   -- a block taken
-  pub took : {t : TableStore} (p : ℕ) → p < s .capacity → getD (now (s .marks)) p 0 ≡ 0 → s .granted < s .capacity → Becomes s t (min (s .granted + 1) 4294967295) (set (now (s .marks)) p 1) (cleared (p * s .width) (s .width) (now (s .words))) → Told (TakeDone (means s) (p + 1) (means t)) (Unit {0}) (Ready t)
+  pub took : {t : TableStore} (p : ℕ) → p < s .capacity → getD (now (s .marks)) p 0 ≡ 0 → s .granted < s .capacity → Granting s p t → Told (TakeDone (means s) (p + 1) (means t)) (Unit {0}) (Ready t)
   took p low unused few d = record {
     call = record {
       was-up = refl;
@@ -209,7 +209,7 @@ module _ {width : ℕ} {marks words : List ℕ} {s : TableStore} (o : Over width
       ∙ sym (ap₂ (λ w m. most-blocks w (length m) (length (now (s .words)))) (o .width-is) (o .marks-are) ∙ ap (λ v. most-blocks width (length marks) (length v)) (o .words-are))
 
   -- its marks cleared
-  pub made-fresh : {t : TableStore} → Becomes s t (s .granted) (unmarked (s .capacity) (now (s .marks))) (now (s .words)) → Fresh width marks words t
+  pub made-fresh : {t : TableStore} → Unmarking s t → Fresh width marks words t
   made-fresh d =
       let w = s .width in
       let c = s .capacity in
@@ -229,7 +229,7 @@ module _ {width : ℕ} {marks words : List ℕ} {s : TableStore} (o : Over width
       }
 
   -- its grants counted
-  pub made-again : {t : TableStore} → Becomes s t (count-to (in-use (s .capacity) (now (s .marks))) (s .capacity)) (now (s .marks)) (now (s .words)) → Reopened width marks words t
+  pub made-again : {t : TableStore} → Recounting s t → Reopened width marks words t
   made-again d = record {
     ready = becomes-ready d (record {
       wide = omega (arith, o .wide, o .width-is);

@@ -2,17 +2,18 @@
 use mathlib.Core.Path.{_≡_}
 use mathlib.Core.Bool.{true, cond}
 use mathlib.Core.List.{List}
-use Prim.Native.Nat.{ℕ, _+_, _-_, _*_, _≤_, _<_}
+use Prim.Native.Nat.{ℕ, _+_, _-_, _*_, _≤_, _<_, min}
 use denote.Ref.{now}
-use lib.ListN.{length}
+use lib.ListN.{length, set}
 use Rattle.std.specs.declared.result.Result.{Result}
 use Rattle.std.specs.declared.result.Result.the-variants.{Ok, Err}
 use Rattle.store.specs.declared.fault.Fault.{Fault}
 use Rattle.store.specs.declared.fault.Refusal.the-variants.{NotGranted, Outside}
 use Rattle.store.specs.Faults.{own-fault}
+use Rattle.store.specs.Meaning.{count-to}
 use Rattle.stores.specs.declared.table.TableStore.{TableStore}
 use Rattle.stores.specs.declared.table.Unfit.{Unfit}
-use Rattle.stores.specs.Table.{in-use, most-blocks}
+use Rattle.stores.specs.Table.{in-use, most-blocks, cleared, unmarked}
 use Rattle.stores.specs.Opened.{Misfits}
 
 -- t is s with so many grants, and these marks and words
@@ -22,6 +23,26 @@ pub record Becomes (s t : TableStore) (granted : ℕ) (marks words : List ℕ) :
   pub granted-is : t .granted ≡ granted
   pub marks-are : now (t .marks) ≡ marks
   pub words-are : now (t .words) ≡ words
+
+-- the word at `at` was changed to v
+abbrev pub Put : TableStore → ℕ → ℕ → TableStore → Type 0
+Put s at v t = Becomes s t (s .granted) (now (s .marks)) (set (now (s .words)) at v)
+
+-- a slot was marked and its words cleared, with one grant more
+abbrev pub Granting : TableStore → ℕ → TableStore → Type 0
+Granting s slot t = Becomes s t (min (s .granted + 1) 4294967295) (set (now (s .marks)) slot 1) (cleared (slot * s .width) (s .width) (now (s .words)))
+
+-- a slot's mark was taken away, with one grant less
+abbrev pub Releasing : TableStore → ℕ → TableStore → Type 0
+Releasing s slot t = Becomes s t (s .granted - 1) (set (now (s .marks)) slot 0) (now (s .words))
+
+-- every slot's mark was taken away
+abbrev pub Unmarking : TableStore → TableStore → Type 0
+Unmarking s t = Becomes s t (s .granted) (unmarked (s .capacity) (now (s .marks))) (now (s .words))
+
+-- the marks were counted
+abbrev pub Recounting : TableStore → TableStore → Type 0
+Recounting s t = Becomes s t (count-to (in-use (s .capacity) (now (s .marks))) (s .capacity)) (now (s .marks)) (now (s .words))
 
 -- s stands over marks and words as they are, with no grants noted yet
 pub record Over (width : ℕ) (marks words : List ℕ) (s : TableStore) : Type 0 where

@@ -1,13 +1,13 @@
 // A block store in two lent runs: the words of all blocks, one block after another, and a mark for each block.
-// The mark of a granted block is not 0. Block b has the mark b - 1 and the words from (b - 1) * width on.
+// Block b has the slot b - 1: the mark there, not 0 where b is granted, and the words from (b - 1) * width on.
 ghost use mathlib.Core.Path.{_≡_};
-ghost use Prim.Native.Nat.{ℕ, _+_, _-_, _*_, _<_, _≤_, min};
+ghost use Prim.Native.Nat.{ℕ, _<_, _≤_};
 ghost use denote.Ref.{now};
-ghost use lib.ListN.{getD, set};
+ghost use lib.ListN.{getD};
 ghost use Rattle.store.specs.Meaning.{count-to};
-ghost use Rattle.stores.specs.Table.{in-use, cleared, unmarked};
+ghost use Rattle.stores.specs.Table.{in-use};
 ghost use Rattle.stores.specs.Opened.{means, Ready, FreshOr, ReopenedOr, StillMeans};
-ghost use Rattle.stores.specs.Steps.{Becomes, OverOr, Located};
+ghost use Rattle.stores.specs.Steps.{Put, Granting, Releasing, Unmarking, Recounting, OverOr, Located};
 ghost use Rattle.stores.specs.Laws.Tables.{fits-sound};
 use crate::runs::clear;
 use crate::runs::clear_marks;
@@ -132,7 +132,7 @@ impl<'a> TableStore<'a> {
 
     // Clears the mark of each block.
     fn unmark(&mut self)
-        ensures { λ _. ⌜ Becomes (now (self .entry)) (now (self .exit)) (now (self .entry) .granted) (unmarked (now (self .entry) .capacity) (now (now (self .entry) .marks))) (now (now (self .entry) .words)) ⌝ }
+        ensures { λ _. ⌜ Unmarking (now (self .entry)) (now (self .exit)) ⌝ }
     {
         let capacity = self.capacity;
         clear_marks(self.marks, capacity);
@@ -140,7 +140,7 @@ impl<'a> TableStore<'a> {
 
     // Counts the grants anew.
     fn recount(&mut self)
-        ensures { λ _. ⌜ Becomes (now (self .entry)) (now (self .exit)) (count-to (in-use (now (self .entry) .capacity) (now (now (self .entry) .marks))) (now (self .entry) .capacity)) (now (now (self .entry) .marks)) (now (now (self .entry) .words)) ⌝ }
+        ensures { λ _. ⌜ Recounting (now (self .entry)) (now (self .exit)) ⌝ }
     {
         self.granted = self.count();
     }
@@ -177,40 +177,40 @@ impl<'a> TableStore<'a> {
     }
 
     fn put(&mut self, at: usize, word: u64)
-        ensures { λ _. ⌜ Becomes (now (self .entry)) (now (self .exit)) (now (self .entry) .granted) (now (now (self .entry) .marks)) (set (now (now (self .entry) .words)) at word) ⌝ }
+        ensures { λ _. ⌜ Put (now (self .entry)) at word (now (self .exit)) ⌝ }
     {
         put_word(self.words, at, word);
     }
 
-    // A free place, the first from the rover on, else the first of all; or the capacity, if none is free.
-    fn free_place(&self) -> u32
+    // A free slot, the first from the rover on, else the first of all; or the capacity, if none is free.
+    fn free_slot(&self) -> u32
         ensures within { λ r. ⌜ r ≤ now (self .entry) .capacity ⌝ }
         ensures free { λ r. ⌜ (r < now (self .entry) .capacity → getD (now (now (self .entry) .marks)) r 0 ≡ 0) ⌝ }
         ensures used { λ r. ⌜ ((k : ℕ) → now (self .entry) .capacity ≤ r → k < r → getD (now (now (self .entry) .marks)) k 0 ≡ 0 → ⊥) ⌝ }
     {
-        let place = free_mark(self.marks, self.rover, self.capacity);
-        if place < self.capacity {
-            return place;
+        let slot = free_mark(self.marks, self.rover, self.capacity);
+        if slot < self.capacity {
+            return slot;
         }
         free_mark(self.marks, 0, self.capacity)
     }
 
-    // Marks a free place, and clears its words.
-    fn grant(&mut self, place: u32)
-        ensures { λ _. ⌜ Becomes (now (self .entry)) (now (self .exit)) (min (now (self .entry) .granted + 1) 4294967295) (set (now (now (self .entry) .marks)) place 1) (cleared (place * now (self .entry) .width) (now (self .entry) .width) (now (now (self .entry) .words))) ⌝ }
+    // Marks a free slot, and clears its words.
+    fn grant(&mut self, slot: u32)
+        ensures { λ _. ⌜ Granting (now (self .entry)) slot (now (self .exit)) ⌝ }
     {
         let width = self.width as usize;
-        clear(self.words, place as usize * width, width);
-        put_mark(self.marks, place as usize, 1);
+        clear(self.words, slot as usize * width, width);
+        put_mark(self.marks, slot as usize, 1);
         self.granted = self.granted.saturating_add(1);
-        self.rover = place.saturating_add(1);
+        self.rover = slot.saturating_add(1);
     }
 
-    // Takes a place's mark away.
-    fn release(&mut self, place: u32)
-        ensures { λ _. ⌜ Becomes (now (self .entry)) (now (self .exit)) (now (self .entry) .granted - 1) (set (now (now (self .entry) .marks)) place 0) (now (now (self .entry) .words)) ⌝ }
+    // Takes a slot's mark away.
+    fn release(&mut self, slot: u32)
+        ensures { λ _. ⌜ Releasing (now (self .entry)) slot (now (self .exit)) ⌝ }
     {
-        put_mark(self.marks, place as usize, 0);
+        put_mark(self.marks, slot as usize, 0);
         self.granted = self.granted.saturating_sub(1);
     }
 
@@ -236,13 +236,13 @@ pub impl<'a> Store for TableStore<'a> as TableStoreStore {
         if self.granted >= self.capacity {
             return Err(Fault::own(Refusal::NoRoom, 0));
         }
-        let place = self.free_place();
-        if place >= self.capacity {
+        let slot = self.free_slot();
+        if slot >= self.capacity {
             // never so in a ready store
             return Err(Fault::own(Refusal::NoRoom, 0));
         }
-        self.grant(place);
-        Ok(place + 1)
+        self.grant(slot);
+        Ok(slot + 1)
     }
 
     fn give_back(&mut self, block: u32) -> Result<(), Fault> {
