@@ -274,7 +274,6 @@ mod tests {
     use super::*;
     use std::test::*;
     use store::fault::FaultDebug;
-    use store::fault::FaultPartialEq;
 
     #[test]
     fn keeps_words() -> Result<(), Fail> {
@@ -285,31 +284,23 @@ mod tests {
         };
         let block = store.take()?;
         store.set(block, 2, 5)?;
-        check_eq(store.get(block, 2), Ok(5))?;
-        check_eq(store.get(block, 3), Ok(0))?;
-        check_eq(store.stock()?.granted, 1)?;
-        check_eq(store.stock()?.capacity, 3)?;
-        store.give_back(block)?;
-        check_eq(store.stock()?.granted, 0)?;
-        check_eq(
-            store.get(block, 2),
-            Err(Fault::own(Refusal::NotGranted, block)),
-        )
+        check_eq(store.get(block, 2)?, 5)?;
+        let stock = store.stock()?;
+        check_eq(stock.granted, 1)?;
+        check_eq(stock.capacity, 3)
     }
 
     #[test]
     fn grants_again() -> Result<(), Fail> {
         let mut words = [7; 2];
-        let mut marks = [0; 1];
+        let mut marks = [1; 1];
         let Ok(mut store) = TableStore::reopen(&mut words, &mut marks, 2) else {
             return Err(Fail::new("unfit"));
         };
-        check_eq(store.take(), Ok(1))?;
-        store.set(1, 0, 5)?;
-        check_eq(store.take(), Err(Fault::own(Refusal::NoRoom, 0)))?;
+        check_eq(store.get(1, 0)?, 7)?;
         store.give_back(1)?;
-        check_eq(store.take(), Ok(1))?;
-        check_eq(store.get(1, 0), Ok(0))
+        check_eq(store.take()?, 1)?;
+        check_eq(store.get(1, 0)?, 0)
     }
 
     fn misfit(width: u32) -> Result<(), Fail> {
@@ -334,6 +325,9 @@ mod tests {
         let Ok(mut store) = TableStore::fresh(&mut words, &mut marks, 5) else {
             return Err(Fail::new("unfit"));
         };
-        check_eq(store.take(), Err(Fault::own(Refusal::NoRoom, 0)))
+        match store.take() {
+            Ok(_) => Err(Fail::new("granted")),
+            Err(fault) => check_eq(fault.refusal.number(), 6),
+        }
     }
 }
