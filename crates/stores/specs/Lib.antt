@@ -1,3 +1,4 @@
 pub mod Table
 pub mod Opened
+pub mod Steps
 pub mod Laws

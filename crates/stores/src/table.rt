@@ -1,11 +1,13 @@
 // A block store in two lent runs: the words of all blocks, one block after another, and a mark for each block.
-// The mark of a granted block is not 0. Block b has the mark b - 1 and the words from (b - 1) * width on.
+// Block b has the slot b - 1: the mark there, not 0 where b is granted, and the words from (b - 1) * width on.
 ghost use mathlib.Core.Path.{_≡_};
 ghost use Prim.Native.Nat.{ℕ, _<_, _≤_};
 ghost use denote.Ref.{now};
 ghost use lib.ListN.{getD};
+ghost use Rattle.store.specs.Meaning.{count-to};
 ghost use Rattle.stores.specs.Table.{in-use};
 ghost use Rattle.stores.specs.Opened.{means, Ready, FreshOr, ReopenedOr, StillMeans};
+ghost use Rattle.stores.specs.Steps.{Put, Granting, Releasing, Unmarking, Recounting, OverOr, Located};
 ghost use Rattle.stores.specs.Laws.Tables.{fits-sound};
 use crate::runs::clear;
 use crate::runs::clear_marks;
@@ -59,23 +61,9 @@ impl<'a> TableStore<'a> {
     ) -> Result<TableStore<'a>, Unfit<'a>>
         ensures { λ r. ⌜ FreshOr width (now (marks .entry)) (now (words .entry)) r ⌝ }
     {
-        if width == 0 || width > WIDEST {
-            return Err(Unfit {
-                fault: Fault::own(Refusal::Misfit, 0),
-                words,
-                marks,
-            });
-        }
-        let capacity = most(width, marks.len(), words.len());
-        clear_marks(marks, capacity);
-        Ok(TableStore {
-            words,
-            marks,
-            width,
-            capacity,
-            granted: 0,
-            rover: 0,
-        })
+        let mut store = TableStore::over(words, marks, width)?;
+        store.unmark();
+        Ok(store)
     }
 
     // A store over runs as they were left: its grants are those that the marks tell.
@@ -86,23 +74,9 @@ impl<'a> TableStore<'a> {
     ) -> Result<TableStore<'a>, Unfit<'a>>
         ensures { λ r. ⌜ ReopenedOr width (now (marks .entry)) (now (words .entry)) r ⌝ }
     {
-        if width == 0 || width > WIDEST {
-            return Err(Unfit {
-                fault: Fault::own(Refusal::Misfit, 0),
-                words,
-                marks,
-            });
-        }
-        let capacity = most(width, marks.len(), words.len());
-        let granted = count_marks(marks, capacity);
-        Ok(TableStore {
-            words,
-            marks,
-            width,
-            capacity,
-            granted,
-            rover: 0,
-        })
+        let mut store = TableStore::over(words, marks, width)?;
+        store.recount();
+        Ok(store)
     }
 
     // Ends the store, and yields its runs.
@@ -130,10 +104,70 @@ impl<'a> TableStore<'a> {
         TableStore::reopen(words, marks, width)
     }
 
+    // A store over the runs as they are, before its grants are known.
+    fn over(
+        words: &'a mut [u64],
+        marks: &'a mut [u8],
+        width: u32,
+    ) -> Result<TableStore<'a>, Unfit<'a>>
+        ensures { λ r. ⌜ OverOr width (now (marks .entry)) (now (words .entry)) r ⌝ }
+    {
+        if width == 0 || width > WIDEST {
+            return Err(Unfit {
+                fault: Fault::own(Refusal::Misfit, 0),
+                words,
+                marks,
+            });
+        }
+        let capacity = most(width, marks.len(), words.len());
+        Ok(TableStore {
+            words,
+            marks,
+            width,
+            capacity,
+            granted: 0,
+            rover: 0,
+        })
+    }
+
+    // Clears the mark of each block.
+    fn unmark(&mut self)
+        ensures { λ _. ⌜ Unmarking (now (self .entry)) (now (self .exit)) ⌝ }
+    {
+        let capacity = self.capacity;
+        clear_marks(self.marks, capacity);
+    }
+
+    // Counts the grants anew.
+    fn recount(&mut self)
+        ensures { λ _. ⌜ Recounting (now (self .entry)) (now (self .exit)) ⌝ }
+    {
+        self.granted = self.count();
+    }
+
+    fn count(&self) -> u32
+        ensures { λ r. ⌜ r ≡ count-to (in-use (now (self .entry) .capacity) (now (now (self .entry) .marks))) (now (self .entry) .capacity) ⌝ }
+    {
+        count_marks(self.marks, self.capacity)
+    }
+
     fn is_granted(&self, block: u32) -> bool
         ensures { λ r. ⌜ r ≡ in-use (now (self .entry) .capacity) (now (now (self .entry) .marks)) block ⌝ }
     {
         marked(self.marks, self.capacity, block)
+    }
+
+    // Where a word of a granted block stands in the run.
+    fn locate(&self, block: u32, place: u32) -> Result<usize, Fault>
+        ensures { λ r. ⌜ Located (now (self .entry)) block place r ⌝ }
+    {
+        if !self.is_granted(block) {
+            return Err(Fault::own(Refusal::NotGranted, block));
+        }
+        if place >= self.width {
+            return Err(Fault::own(Refusal::Outside, block));
+        }
+        Ok((block as usize - 1) * self.width as usize + place as usize)
     }
 
     fn word(&self, at: usize) -> u64
@@ -142,17 +176,52 @@ impl<'a> TableStore<'a> {
         word_at(self.words, at)
     }
 
-    // A free place, the first from the rover on, else the first of all; or the capacity, if none is free.
-    fn free_place(&self) -> u32
+    fn put(&mut self, at: usize, word: u64)
+        ensures { λ _. ⌜ Put (now (self .entry)) at word (now (self .exit)) ⌝ }
+    {
+        put_word(self.words, at, word);
+    }
+
+    // A free slot, the first from the rover on, else the first of all; or the capacity, if none is free.
+    fn free_slot(&self) -> u32
         ensures within { λ r. ⌜ r ≤ now (self .entry) .capacity ⌝ }
         ensures free { λ r. ⌜ (r < now (self .entry) .capacity → getD (now (now (self .entry) .marks)) r 0 ≡ 0) ⌝ }
         ensures used { λ r. ⌜ ((k : ℕ) → now (self .entry) .capacity ≤ r → k < r → getD (now (now (self .entry) .marks)) k 0 ≡ 0 → ⊥) ⌝ }
     {
-        let place = free_mark(self.marks, self.rover, self.capacity);
-        if place < self.capacity {
-            return place;
+        let slot = free_mark(self.marks, self.rover, self.capacity);
+        if slot < self.capacity {
+            return slot;
         }
         free_mark(self.marks, 0, self.capacity)
+    }
+
+    // Marks a free slot, and clears its words.
+    fn grant(&mut self, slot: u32)
+        ensures { λ _. ⌜ Granting (now (self .entry)) slot (now (self .exit)) ⌝ }
+    {
+        let width = self.width as usize;
+        clear(self.words, slot as usize * width, width);
+        put_mark(self.marks, slot as usize, 1);
+        self.granted = self.granted.saturating_add(1);
+        self.rover = slot.saturating_add(1);
+    }
+
+    // Takes a slot's mark away.
+    fn release(&mut self, slot: u32)
+        ensures { λ _. ⌜ Releasing (now (self .entry)) slot (now (self .exit)) ⌝ }
+    {
+        put_mark(self.marks, slot as usize, 0);
+        self.granted = self.granted.saturating_sub(1);
+    }
+
+    fn holding(&self) -> Stock
+        ensures { λ r. ⌜ r ≡ record { width = now (self .entry) .width; granted = now (self .entry) .granted; capacity = now (self .entry) .capacity } ⌝ }
+    {
+        Stock {
+            width: self.width,
+            granted: self.granted,
+            capacity: self.capacity,
+        }
     }
 }
 
@@ -167,56 +236,36 @@ pub impl<'a> Store for TableStore<'a> as TableStoreStore {
         if self.granted >= self.capacity {
             return Err(Fault::own(Refusal::NoRoom, 0));
         }
-        let place = self.free_place();
-        if place >= self.capacity {
+        let slot = self.free_slot();
+        if slot >= self.capacity {
+            // never so in a ready store
             return Err(Fault::own(Refusal::NoRoom, 0));
         }
-        let width = self.width as usize;
-        clear(self.words, place as usize * width, width);
-        put_mark(self.marks, place as usize, 1);
-        self.granted += 1;
-        self.rover = place + 1;
-        Ok(place + 1)
+        self.grant(slot);
+        Ok(slot + 1)
     }
 
     fn give_back(&mut self, block: u32) -> Result<(), Fault> {
         if !self.is_granted(block) {
             return Err(Fault::own(Refusal::NotGranted, block));
         }
-        put_mark(self.marks, block as usize - 1, 0);
-        self.granted = self.granted.saturating_sub(1);
+        self.release(block - 1);
         Ok(())
     }
 
     fn get(&mut self, block: u32, place: u32) -> Result<u64, Fault> {
-        if !self.is_granted(block) {
-            return Err(Fault::own(Refusal::NotGranted, block));
-        }
-        if place >= self.width {
-            return Err(Fault::own(Refusal::Outside, block));
-        }
-        let at = (block as usize - 1) * self.width as usize + place as usize;
+        let at = self.locate(block, place)?;
         Ok(self.word(at))
     }
 
     fn set(&mut self, block: u32, place: u32, word: u64) -> Result<(), Fault> {
-        if !self.is_granted(block) {
-            return Err(Fault::own(Refusal::NotGranted, block));
-        }
-        if place >= self.width {
-            return Err(Fault::own(Refusal::Outside, block));
-        }
-        let at = (block as usize - 1) * self.width as usize + place as usize;
-        put_word(self.words, at, word);
+        let at = self.locate(block, place)?;
+        self.put(at, word);
         Ok(())
     }
 
     fn stock(&mut self) -> Result<Stock, Fault> {
-        Ok(Stock {
-            width: self.width,
-            granted: self.granted,
-            capacity: self.capacity,
-        })
+        Ok(self.holding())
     }
 }
 
@@ -225,7 +274,6 @@ mod tests {
     use super::*;
     use std::test::*;
     use store::fault::FaultDebug;
-    use store::fault::FaultPartialEq;
 
     #[test]
     fn keeps_words() -> Result<(), Fail> {
@@ -236,31 +284,23 @@ mod tests {
         };
         let block = store.take()?;
         store.set(block, 2, 5)?;
-        check_eq(store.get(block, 2), Ok(5))?;
-        check_eq(store.get(block, 3), Ok(0))?;
-        check_eq(store.stock()?.granted, 1)?;
-        check_eq(store.stock()?.capacity, 3)?;
-        store.give_back(block)?;
-        check_eq(store.stock()?.granted, 0)?;
-        check_eq(
-            store.get(block, 2),
-            Err(Fault::own(Refusal::NotGranted, block)),
-        )
+        check_eq(store.get(block, 2)?, 5)?;
+        let stock = store.stock()?;
+        check_eq(stock.granted, 1)?;
+        check_eq(stock.capacity, 3)
     }
 
     #[test]
     fn grants_again() -> Result<(), Fail> {
         let mut words = [7; 2];
-        let mut marks = [0; 1];
+        let mut marks = [1; 1];
         let Ok(mut store) = TableStore::reopen(&mut words, &mut marks, 2) else {
             return Err(Fail::new("unfit"));
         };
-        check_eq(store.take(), Ok(1))?;
-        store.set(1, 0, 5)?;
-        check_eq(store.take(), Err(Fault::own(Refusal::NoRoom, 0)))?;
+        check_eq(store.get(1, 0)?, 7)?;
         store.give_back(1)?;
-        check_eq(store.take(), Ok(1))?;
-        check_eq(store.get(1, 0), Ok(0))
+        check_eq(store.take()?, 1)?;
+        check_eq(store.get(1, 0)?, 0)
     }
 
     fn misfit(width: u32) -> Result<(), Fail> {
@@ -285,6 +325,9 @@ mod tests {
         let Ok(mut store) = TableStore::fresh(&mut words, &mut marks, 5) else {
             return Err(Fail::new("unfit"));
         };
-        check_eq(store.take(), Err(Fault::own(Refusal::NoRoom, 0)))
+        match store.take() {
+            Ok(_) => Err(Fail::new("granted")),
+            Err(fault) => check_eq(fault.refusal.number(), 6),
+        }
     }
 }

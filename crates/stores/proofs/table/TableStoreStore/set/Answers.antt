@@ -1,20 +1,11 @@
-use mathlib.Core.Path.{refl, sym}
-use Rattle.stores.specs.Laws.Tables.{used-parts}
-use Rattle.stores.proofs.TableCalls.{missing-word, outside-word, put-word, fits-words}
+use Rattle.std.proofs.shelf.Results.{err-from-errBy}
+use Rattle.stores.proofs.TableCalls.{missed, put}
 use Rattle.stores.proofs.table.TableStoreStore.set.Needs as need
 
-pub returns-then-not-is-granted : need.returns-then-not-is-granted
-returns-then-not-is-granted c =
-    rw (c .own .ensures) (record { keeps = λ f. record { call = missing-word f _ _ (sym (c .if-not-is-granted .ensures tt)); deep = refl; ready = f }; did = tt })
-
-pub returns-then-place-self : need.returns-then-place-self
-returns-then-place-self c =
-    rw (c .own-then-place-self .ensures) (record { keeps = λ f. record { call = outside-word f _ _ (sym (c .if-not-is-granted .ensures tt)) (c .if-place-self .taken); deep = refl; ready = f }; did = tt })
+pub returns-in-Break-at : need.returns-in-Break-at
+returns-in-Break-at c =
+    let p = err-from-errBy (c .from-residual .result) (c .from-residual .ensures .1) in
+    rw (p .1, p .2) (record { keeps = λ f. missed (c .args .self .now) f (c .in-Break-at .ensures tt); did = tt })
 
 pub returns : need.returns
-returns c =
-    rw (c .put-word .ensures)
-    (record { keeps = λ f. record { call = put-word f _ _ _ (sym (c .if-not-is-granted .ensures tt)) (c .if-place-self .left); deep = tt; ready = fits-words f _ _ }; did = tt })
-
-pub sub-at : need.sub-at
-sub-at c = used-parts _ _ _ (sym (c .if-not-is-granted .ensures tt)) .0
+returns c = record { keeps = λ f. put (c .args .self .now) f (c .in-Continue-at .ensures tt) (c .put .ensures); did = tt }

@@ -1,22 +1,21 @@
 use mathlib.Core.Path.{refl}
 use native.Mathlib.Omega.{arith}
-use Rattle.stores.proofs.TableCalls.{no-room, place-below, took, fits-take}
+use Rattle.stores.proofs.TableCalls.{no-room, slot-below, took}
 use Rattle.stores.proofs.table.TableStoreStore.take.Needs as need
 
 pub returns-then-self : need.returns-then-self
-returns-then-self c = rw (c .own .ensures) (record { keeps = λ f. record { call = no-room f (c .if-self .taken); deep = refl; ready = f }; did = tt })
+returns-then-self c = rw (c .own .ensures) (record { keeps = λ f. record { call = no-room (c .args .self .now) f (c .if-self .taken); deep = refl; ready = f }; did = tt })
 
-pub returns-then-place-self : need.returns-then-place-self
-returns-then-place-self c = record {
+pub returns-then-slot-self : need.returns-then-slot-self
+returns-then-slot-self c = record {
   keeps = λ f.
-      let m = c .free-place-place .ensures in
-      let low = place-below f _ (m .within) (m .used) (c .if-self .left) in
+      let m = c .free-slot-slot .ensures in
+      let low = slot-below (c .args .self .now) f _ (m .within) (m .used) (c .if-self .left) in
       absurd (omega arith);
   did = tt;
 }
 
 pub returns : need.returns
 returns c =
-    let low = c .if-place-self .left in
-    let free = c .free-place-place .ensures .free low in
-    rw (c .put-mark .ensures, c .clear .ensures) (record { keeps = λ f. record { call = took f _ low free (c .if-self .left); deep = tt; ready = fits-take f _ low free }; did = tt })
+    let low = c .if-slot-self .left in
+    record { keeps = λ f. took (c .args .self .now) f _ low (c .free-slot-slot .ensures .free low) (c .if-self .left) (c .grant .ensures); did = tt }
