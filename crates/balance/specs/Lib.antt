@@ -1,1 +1,3 @@
 pub mod Limits
+pub mod Ways
+pub mod Cuts

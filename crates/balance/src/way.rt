@@ -1,5 +1,9 @@
 // The way down from a node.
 ghost use Prim.Native.Nat.{_<_};
+ghost use Rattle.store.specs.Calls.{Leaves};
+ghost use Rattle.runs.specs.Work.{Work};
+ghost use Rattle.nodes.specs.Places.{form};
+ghost use Rattle.balance.specs.Ways.{Peopled, Led};
 ghost use Rattle.std.specs.declared.result.Result.the-variants.{Ok, Err};
 use keys::key::Key;
 use nodes::read::child_block;
@@ -16,9 +20,11 @@ pub struct Way {
 
 // The last child whose routing key is at most `key`, or the first.
 pub fn way_down<K: Key, S: Store>(store: &mut S, block: u32, key: &K) -> Result<Way, Fault>
-    ensures { λ r. ⌜ elim r [ Ok w ↦ w .place < 80 | Err f ↦ Unit {0} ] ⌝ }
+    ensures within { λ r. ⌜ elim r [ Ok w ↦ w .place < 80 | Err f ↦ Unit {0} ] ⌝ }
+    ensures leads { λ r. ⌜ Leaves meaning ready (Work (Peopled (form width) block) (Led (form width) order unpacked block (now (key .entry)))) (now (store .entry)) r (now (store .exit)) ⌝ }
 {
-    let place = keys_up_to(store, block, key)?.saturating_sub(1);
+    let upto = keys_up_to(store, block, key)?;
+    let place = upto.saturating_sub(1);
     let child = child_block::<K, S>(store, block, place)?;
     Ok(Way { place, child })
 }
