@@ -6,7 +6,7 @@ use native.Mathlib.Omega.{arith}
 use lib.ListN.{length, getD, take, drop}
 use Rattle.std.proofs.shelf.Lists.{length-map, getD-map, take-all, drop-all}
 use Rattle.store.specs.Meaning.{Meaning}
-use Rattle.runs.specs.Blocks.{Word}
+use Rattle.copies.specs.Blocks.{Word}
 use Rattle.nodes.specs.Places.{Form, form, weight-at}
 use Rattle.nodes.specs.Nodes.{Entry, Node, Weighs, Keyed, entries, entry-at}
 use Rattle.nodes.proofs.Upto.{length-upto, getD-upto}

@@ -2,7 +2,7 @@
 ghost use mathlib.Core.Path.{_≡_};
 ghost use Prim.Native.Nat.{_+_, _*_, _<_, _≤_, _^_};
 ghost use Rattle.store.specs.Calls.{Leaves};
-ghost use Rattle.runs.specs.Work.{Work};
+ghost use Rattle.copies.specs.Work.{Work};
 ghost use Rattle.nodes.specs.Places.{form};
 ghost use Rattle.balance.specs.Cuts.{Weighable, Weighed, Counted, Summed, Totalled, Cut-at, Heavy, Halved};
 ghost use Rattle.std.specs.declared.result.Result.the-variants.{Ok, Err};

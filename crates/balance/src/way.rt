@@ -1,7 +1,7 @@
 // The way down from a node.
 ghost use Prim.Native.Nat.{_<_};
 ghost use Rattle.store.specs.Calls.{Leaves};
-ghost use Rattle.runs.specs.Work.{Work};
+ghost use Rattle.copies.specs.Work.{Work};
 ghost use Rattle.nodes.specs.Places.{form};
 ghost use Rattle.balance.specs.Ways.{Peopled, Led};
 ghost use Rattle.std.specs.declared.result.Result.the-variants.{Ok, Err};

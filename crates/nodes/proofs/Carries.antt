@@ -5,8 +5,8 @@ use Prim.Native.Nat.{ℕ, _+_, _-_, _*_, _<_, _≤_}
 use native.Mathlib.Omega.{arith}
 use native.Mathlib.Nat.{mul-le-mul-left}
 use Rattle.store.specs.Meaning.{Meaning}
-use Rattle.runs.specs.Blocks.{Copyable, edit, pasted}
-use Rattle.runs.proofs.Edits.{paste-then, pasted-in, pasted-out}
+use Rattle.copies.specs.Blocks.{Copyable, edit, pasted}
+use Rattle.copies.proofs.Edits.{paste-then, pasted-in, pasted-out}
 use Rattle.nodes.specs.Places.{Form, weight-at, key-at, child-at, breadth}
 use Rattle.nodes.specs.Nodes.{Rooms, carried}
 use Rattle.nodes.proofs.Rooms.{keys-within, rooms-copy}

@@ -3,8 +3,8 @@ use mathlib.Core.Path.{_≡_, ap, _∙_}
 use Prim.Native.Nat.{ℕ, _<_, _≤_}
 use native.Mathlib.Omega.{arith}
 use Rattle.store.specs.Meaning.{Meaning}
-use Rattle.runs.specs.Blocks.{Word, edit}
-use Rattle.runs.proofs.Edits.{edit-granted, edit-width}
+use Rattle.copies.specs.Blocks.{Word, edit}
+use Rattle.copies.proofs.Edits.{edit-granted, edit-width}
 use Rattle.nodes.specs.Headers.{Headroom}
 
 pub head-place : (m n : Meaning) (b p : ℕ) (F : (ℕ → ℕ) → ℕ → ℕ) → p < 4 → n ≡ edit m b F → Headroom b m → Word b p n

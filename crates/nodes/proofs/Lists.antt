@@ -6,9 +6,9 @@ use Prim.Native.Nat.{ℕ, _+_, _-_, _*_, _<_, _≤_}
 use native.Mathlib.Omega.{arith}
 use lib.ListN.{length, take, drop}
 use Rattle.store.specs.Meaning.{Meaning, with-at, with-block}
-use Rattle.runs.specs.Blocks.{edit}
-use Rattle.runs.proofs.Changes.{with-at-here, with-at-other}
-use Rattle.runs.proofs.Edits.{edit-here, edit-other, edit-frame}
+use Rattle.copies.specs.Blocks.{edit}
+use Rattle.copies.proofs.Changes.{with-at-here, with-at-other}
+use Rattle.copies.proofs.Edits.{edit-here, edit-other, edit-frame}
 use Rattle.nodes.specs.Places.{Form}
 use Rattle.nodes.specs.Nodes.{Entry, entry-at, entries, upto, insert-at, replace-at, remove-at, carried, placed, Holds, Parted}
 use Rattle.nodes.proofs.Upto.{upto-same, upto-insert, upto-join, take-upto, drop-upto}

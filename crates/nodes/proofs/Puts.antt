@@ -2,8 +2,8 @@
 use mathlib.Core.Path.{_≡_, refl, sym, ap, _∙_}
 use Prim.Native.Nat.{ℕ, _+_, _*_, _<_, _≤_}
 use Rattle.store.specs.Meaning.{Meaning, with-at}
-use Rattle.runs.specs.Blocks.{edit, filled}
-use Rattle.runs.proofs.Edits.{edit-then}
+use Rattle.copies.specs.Blocks.{edit, filled}
+use Rattle.copies.proofs.Edits.{edit-then}
 use Rattle.nodes.specs.Places.{Form, weight-at, key-at, child-at}
 use Rattle.nodes.specs.Nodes.{Entry, placed}
 

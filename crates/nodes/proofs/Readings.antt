@@ -9,7 +9,7 @@ use Rattle.std.proofs.shelf.Edits.{fill-by-more}
 use Rattle.std.proofs.shelf.Counted.{fill-by-all}
 use Rattle.store.specs.Meaning.{Meaning}
 use Rattle.store.specs.Calls.{GetDone}
-use Rattle.runs.specs.Blocks.{Read}
+use Rattle.copies.specs.Blocks.{Read}
 use Rattle.nodes.specs.Places.{Form, weight-at, key-at, child-at, block-number}
 use Rattle.nodes.specs.Nodes.{entry-at, Weighs, Leads, Leads-to}
 

@@ -4,8 +4,8 @@ use Prim.Native.Nat.{ℕ, _+_, _-_, _*_, _<_, _≤_}
 use native.Mathlib.Omega.{arith}
 use native.Mathlib.Nat.{mul-le-mul-left}
 use Rattle.store.specs.Meaning.{Meaning}
-use Rattle.runs.specs.Blocks.{Copyable, Word, edit}
-use Rattle.runs.proofs.Edits.{edit-granted, edit-width}
+use Rattle.copies.specs.Blocks.{Copyable, Word, edit}
+use Rattle.copies.proofs.Edits.{edit-granted, edit-width}
 use Rattle.nodes.specs.Places.{Form, form, most, weight-at, key-at, child-at, breadth}
 use Rattle.nodes.specs.Nodes.{Room, Rooms, Countable, Carried, carried}
 

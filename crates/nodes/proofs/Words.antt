@@ -12,9 +12,9 @@ use Rattle.std.proofs.shelf.Tests.{cases-lt}
 use Rattle.std.proofs.shelf.Ways.{tells}
 use Rattle.std.proofs.shelf.Counted.{fill-by-all}
 use Rattle.store.specs.Meaning.{with-at}
-use Rattle.runs.specs.Blocks.{splice, pasted, filled}
-use Rattle.runs.proofs.Changes.{with-at-other}
-use Rattle.runs.proofs.Edits.{pasted-in, pasted-out}
+use Rattle.copies.specs.Blocks.{splice, pasted, filled}
+use Rattle.copies.proofs.Changes.{with-at-other}
+use Rattle.copies.proofs.Edits.{pasted-in, pasted-out}
 use Rattle.nodes.specs.Places.{Form, weight-at, key-at, child-at}
 use Rattle.nodes.specs.Nodes.{Entry, entry-at, carried, placed}
 use Rattle.nodes.proofs.Upto.{upto-same}

@@ -6,7 +6,7 @@ use Prim.Native.Nat.{ℕ, _+_, _-_, _*_, _≤_, _<_}
 use lib.ListN.{take, drop}
 use Rattle.std.specs.Iters.{counting}
 use Rattle.store.specs.Meaning.{Meaning, with-at, with-block}
-use Rattle.runs.specs.Blocks.{Word, edit, pasted, filled}
+use Rattle.copies.specs.Blocks.{Word, edit, pasted, filled}
 use Rattle.store.specs.declared.fault.Fault.{Fault}
 use Rattle.nodes.specs.declared.entry.Entry.{Entry as Coded}
 use Rattle.nodes.specs.Places.{Form, most, weight-at, key-at, child-at, breadth, block-number, damage}

@@ -1,14 +1,14 @@
 // Entries copied between nodes, or within one.
 ghost use Prim.Native.Nat.{ℕ, _+_, _≤_};
 ghost use Rattle.store.specs.Calls.{Leaves};
-ghost use Rattle.runs.specs.Work.{Work};
+ghost use Rattle.copies.specs.Work.{Work};
 ghost use Rattle.nodes.specs.Places.{form};
 ghost use Rattle.nodes.specs.Nodes.{Rooms, Carried};
 use crate::layout::child_at;
 use crate::layout::key_at;
 use crate::layout::weight_at;
+use copies::copy::copy_run;
 use keys::key::Key;
-use runs::copy::copy_run;
 use store::blocks::Store;
 use store::fault::Fault;
 

@@ -1,8 +1,8 @@
 // Entries of a node written, put in, taken out, and moved between nodes.
 ghost use Prim.Native.Nat.{_<_, _≤_};
 ghost use Rattle.store.specs.Calls.{Leaves};
-ghost use Rattle.runs.specs.Work.{Work};
-ghost use Rattle.runs.specs.Blocks.{Edited, filled};
+ghost use Rattle.copies.specs.Work.{Work};
+ghost use Rattle.copies.specs.Blocks.{Edited, filled};
 ghost use Rattle.nodes.specs.Places.{form, key-at};
 ghost use Rattle.nodes.specs.Nodes.{Room, entry-of, placed, Has, Open, Joinable, Partable, Changed, Joined, Parted, insert-at, replace-at, remove-at};
 use crate::carry::copy_entries;

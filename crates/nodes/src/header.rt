@@ -1,7 +1,7 @@
 // The header block: words of a key, root block, root level and key count, in words 0 to 3.
 ghost use Rattle.store.specs.Calls.{Leaves};
-ghost use Rattle.runs.specs.Work.{Work};
-ghost use Rattle.runs.specs.Blocks.{Edited, filled};
+ghost use Rattle.copies.specs.Work.{Work};
+ghost use Rattle.copies.specs.Blocks.{Edited, filled};
 ghost use Rattle.nodes.specs.Headers.{Headroom, header-words};
 use keys::key::Key;
 use store::blocks::Store;

@@ -1,8 +1,8 @@
 // Parts of a node, read.
 ghost use Prim.Native.Nat.{_<_, _≤_};
 ghost use Rattle.store.specs.Calls.{Leaves};
-ghost use Rattle.runs.specs.Work.{Work, Fails};
-ghost use Rattle.runs.specs.Blocks.{Word, Read};
+ghost use Rattle.copies.specs.Work.{Work, Fails};
+ghost use Rattle.copies.specs.Blocks.{Word, Read};
 ghost use Rattle.nodes.specs.Places.{form, weight-at};
 ghost use Rattle.nodes.specs.Nodes.{Room, Countable, Overfull, Damage, Weighs, Keyed, Leads, Leads-to};
 ghost use Rattle.std.specs.declared.result.Result.the-variants.{Ok, Err};

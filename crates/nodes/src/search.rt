@@ -2,7 +2,7 @@
 ghost use Prim.Native.Nat.{_≤_};
 ghost use Rattle.std.specs.declared.result.Result.the-variants.{Ok, Err};
 ghost use Rattle.store.specs.Calls.{Leaves};
-ghost use Rattle.runs.specs.Work.{Work, Fails};
+ghost use Rattle.copies.specs.Work.{Work, Fails};
 ghost use Rattle.nodes.specs.Places.{form};
 ghost use Rattle.nodes.specs.Nodes.{Node, Overfull, Damage};
 ghost use Rattle.nodes.specs.Finds.{Found};

@@ -1,5 +1,5 @@
 use mathlib.Core.Path.{_∙_}
-use Rattle.runs.proofs.Exits.{raised, lost-later, kin-same}
+use Rattle.copies.proofs.Exits.{raised, lost-later, kin-same}
 use Rattle.nodes.specs.Places.{form}
 use Rattle.nodes.proofs.Rooms.{room-same, countable}
 use Rattle.balance.proofs.Weights.{counted, totalled, cut-before, summed-before, not-all, halved}

@@ -1,6 +1,6 @@
 use mathlib.Core.Path.{refl}
 use native.Mathlib.Omega.{arith}
-use Rattle.runs.proofs.Exits.{raised, lost-later, kin-same}
+use Rattle.copies.proofs.Exits.{raised, lost-later, kin-same}
 use Rattle.nodes.specs.Places.{form}
 use Rattle.balance.proofs.Weights.{still-weighable, summed-more, cut-here, cut-last}
 use Rattle.balance.proofs.cut.split_point.Needs as need

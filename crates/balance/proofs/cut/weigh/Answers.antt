@@ -1,5 +1,5 @@
 use native.Mathlib.Omega.{arith}
-use Rattle.runs.proofs.Exits.{raised}
+use Rattle.copies.proofs.Exits.{raised}
 use Rattle.nodes.specs.Places.{form}
 use Rattle.balance.proofs.Weights.{weighed-leaf, weighed-inner, weight-there}
 use Rattle.balance.proofs.cut.weigh.Needs as need

@@ -1,6 +1,6 @@
 use mathlib.Core.Path.{refl}
 use native.Mathlib.Omega.{arith}
-use Rattle.runs.proofs.Exits.{raised, lost-later, kin-same}
+use Rattle.copies.proofs.Exits.{raised, lost-later, kin-same}
 use Rattle.nodes.specs.Places.{form}
 use Rattle.balance.proofs.Weights.{still-weighable, summed-more, summed-all}
 use Rattle.balance.proofs.cut.whole_weight.Needs as need

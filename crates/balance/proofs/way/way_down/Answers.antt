@@ -1,6 +1,6 @@
 use mathlib.Core.Path.{_≡_, ap, _∙_}
 use native.Mathlib.Omega.{arith}
-use Rattle.runs.proofs.Exits.{raised, lost-later, kin-same}
+use Rattle.copies.proofs.Exits.{raised, lost-later, kin-same}
 use Rattle.nodes.specs.Places.{form, block-number}
 use Rattle.nodes.specs.Nodes.{entry-at}
 use Rattle.nodes.proofs.Rooms.{room-same}

@@ -1,7 +1,7 @@
 use mathlib.Core.Path.{ap}
 use Prim.Native.Nat.{_*_}
-use Rattle.runs.specs.Blocks.{Copyable, Pasted}
-use Rattle.runs.proofs.Exits.{raised, lost-later, kin-edit, work-on}
+use Rattle.copies.specs.Blocks.{Copyable, Pasted}
+use Rattle.copies.proofs.Exits.{raised, lost-later, kin-edit, work-on}
 use Rattle.nodes.specs.Places.{form}
 use Rattle.nodes.specs.Nodes.{Rooms, Carried}
 use Rattle.nodes.proofs.Rooms.{rooms-edit}

@@ -2,9 +2,9 @@ use Prim.Native.Nat.{_+_}
 use mathlib.Core.Path.{_≡_, ap, _∙_}
 use native.Mathlib.Omega.{arith}
 use Rattle.store.specs.Meaning.{with-at}
-use Rattle.runs.specs.Blocks.{Word, Edited}
-use Rattle.runs.proofs.Exits.{raised, lost-later, kin-same, kin-edit, set-work, work-on}
-use Rattle.runs.proofs.Edits.{edit-then}
+use Rattle.copies.specs.Blocks.{Word, Edited}
+use Rattle.copies.proofs.Exits.{raised, lost-later, kin-same, kin-edit, set-work, work-on}
+use Rattle.copies.proofs.Edits.{edit-then}
 use Rattle.nodes.specs.Places.{form}
 use Rattle.nodes.specs.Nodes.{Joinable, Joined}
 use Rattle.nodes.proofs.Rooms.{room-edit, room-place, rooms-same, countable, countable-same, carry-same}

@@ -1,7 +1,7 @@
 use native.Mathlib.Omega.{arith}
 use Rattle.store.specs.Meaning.{with-at}
-use Rattle.runs.specs.Blocks.{Word, Edited}
-use Rattle.runs.proofs.Exits.{raised, lost-later, kin-edit, word-lost, set-edit, set-work, work-on}
+use Rattle.copies.specs.Blocks.{Word, Edited}
+use Rattle.copies.proofs.Exits.{raised, lost-later, kin-edit, word-lost, set-edit, set-work, work-on}
 use Rattle.nodes.specs.Places.{form}
 use Rattle.nodes.specs.Nodes.{Room, entry-of, placed}
 use Rattle.nodes.proofs.Rooms.{room-edit, room-place}

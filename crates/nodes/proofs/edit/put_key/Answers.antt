@@ -1,8 +1,8 @@
 use mathlib.Core.Path.{_≡_, ap, _∙_}
 use native.Mathlib.Omega.{arith}
-use Rattle.runs.specs.Blocks.{edit, filled}
-use Rattle.runs.proofs.Exits.{raised, lost-later, kin-edit, word-lost}
-use Rattle.runs.proofs.Edits.{filled-none, filled-more}
+use Rattle.copies.specs.Blocks.{edit, filled}
+use Rattle.copies.proofs.Exits.{raised, lost-later, kin-edit, word-lost}
+use Rattle.copies.proofs.Edits.{filled-none, filled-more}
 use Rattle.nodes.specs.Places.{form}
 use Rattle.nodes.proofs.Rooms.{room-edit, room-place, key-within}
 use Rattle.nodes.proofs.edit.put_key.Needs as need

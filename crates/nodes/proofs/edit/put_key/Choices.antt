@@ -1,6 +1,6 @@
 use mathlib.Core.Path.{_≡_}
 use Rattle.store.specs.Calls.{Left}
-use Rattle.runs.specs.Blocks.{edit, filled}
+use Rattle.copies.specs.Blocks.{edit, filled}
 use Rattle.nodes.specs.Places.{form, key-at}
 use Rattle.nodes.specs.Nodes.{Room}
 use Rattle.nodes.proofs.edit.put_key.Given as given

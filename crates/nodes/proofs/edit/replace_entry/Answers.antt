@@ -1,6 +1,6 @@
 use native.Mathlib.Omega.{arith}
-use Rattle.runs.specs.Blocks.{Edited}
-use Rattle.runs.proofs.Exits.{raised, kin-same, work-on}
+use Rattle.copies.specs.Blocks.{Edited}
+use Rattle.copies.proofs.Exits.{raised, kin-same, work-on}
 use Rattle.nodes.specs.Places.{form}
 use Rattle.nodes.specs.Nodes.{Room, Has, Changed, entry-of, placed, replace-at}
 use Rattle.nodes.proofs.Rooms.{room-same, countable, edit-same}

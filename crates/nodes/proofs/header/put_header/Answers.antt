@@ -1,9 +1,9 @@
 use mathlib.Core.Path.{refl}
 use native.Mathlib.Omega.{arith}
 use Rattle.store.specs.Meaning.{Meaning, with-at}
-use Rattle.runs.specs.Blocks.{Word, Edited, filled}
-use Rattle.runs.proofs.Exits.{kin-edit, set-work, work-on}
-use Rattle.runs.proofs.Edits.{filled-none, filled-more, filled-step, edit-granted, edit-width}
+use Rattle.copies.specs.Blocks.{Word, Edited, filled}
+use Rattle.copies.proofs.Exits.{kin-edit, set-work, work-on}
+use Rattle.copies.proofs.Edits.{filled-none, filled-more, filled-step, edit-granted, edit-width}
 use Rattle.nodes.specs.Headers.{Headroom, header-words}
 use Rattle.nodes.proofs.Heads.{head-place}
 use Rattle.nodes.proofs.header.put_header.Needs as need

@@ -1,4 +1,4 @@
-use Rattle.runs.proofs.Exits.{raised}
+use Rattle.copies.proofs.Exits.{raised}
 use Rattle.nodes.specs.Places.{form}
 use Rattle.nodes.proofs.Readings.{block-read}
 use Rattle.nodes.proofs.read.child_block.Needs as need

@@ -1,6 +1,6 @@
 use mathlib.Core.Logic.{inl, inr}
 use native.Mathlib.Omega.{arith}
-use Rattle.runs.proofs.Exits.{raised, word-lost}
+use Rattle.copies.proofs.Exits.{raised, word-lost}
 use Rattle.nodes.proofs.read.count.Needs as need
 
 pub returns-in-Break-n : need.returns-in-Break-n

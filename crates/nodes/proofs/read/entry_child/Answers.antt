@@ -1,7 +1,7 @@
 use mathlib.Core.Path.{refl}
 use native.Mathlib.Omega.{arith}
-use Rattle.runs.specs.Blocks.{Word, Read}
-use Rattle.runs.proofs.Exits.{kin-same, get-work, work-on}
+use Rattle.copies.specs.Blocks.{Word, Read}
+use Rattle.copies.proofs.Exits.{kin-same, get-work, work-on}
 use Rattle.nodes.specs.Places.{form}
 use Rattle.nodes.specs.Nodes.{Room, Leads}
 use Rattle.nodes.proofs.Rooms.{room-place}

@@ -1,7 +1,7 @@
 use mathlib.Core.Path.{_≡_, refl, _∙_}
 use native.Mathlib.Omega.{arith}
 use lib.ListN.{length-set}
-use Rattle.runs.proofs.Exits.{raised, lost-later, kin-same, word-lost}
+use Rattle.copies.proofs.Exits.{raised, lost-later, kin-same, word-lost}
 use Rattle.nodes.specs.Places.{form}
 use Rattle.nodes.proofs.Rooms.{room-same, room-place, key-within}
 use Rattle.nodes.proofs.Readings.{read-more, read-all}

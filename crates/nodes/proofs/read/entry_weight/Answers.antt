@@ -1,6 +1,6 @@
-use Rattle.runs.specs.Blocks.{Word, Read}
+use Rattle.copies.specs.Blocks.{Word, Read}
 use mathlib.Core.Path.{_≡_, sym, refl, subst}
-use Rattle.runs.proofs.Exits.{kin-same, get-work, work-on}
+use Rattle.copies.proofs.Exits.{kin-same, get-work, work-on}
 use Rattle.nodes.specs.Places.{weight-at}
 use Rattle.nodes.specs.Nodes.{Weighs}
 use Rattle.nodes.proofs.Readings.{weight-read}

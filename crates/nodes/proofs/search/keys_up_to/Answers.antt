@@ -2,7 +2,7 @@ use mathlib.Core.Path.{_≡_, refl, sym, ap, _∙_}
 use Prim.Native.Nat.{_+_, _-_, _/_}
 use native.Mathlib.Omega.{arith}
 use Rattle.std.proofs.shelf.Tests.{both-ways}
-use Rattle.runs.proofs.Exits.{raised, lost-later, kin-same}
+use Rattle.copies.proofs.Exits.{raised, lost-later, kin-same}
 use Rattle.nodes.specs.Places.{form}
 use Rattle.nodes.specs.Finds.{key-of}
 use Rattle.nodes.proofs.Rooms.{room-same, countable}

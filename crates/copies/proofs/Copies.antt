@@ -9,9 +9,9 @@ use Rattle.std.proofs.shelf.Ways.{tells}
 use Rattle.store.specs.declared.fault.Fault.{Fault}
 use Rattle.store.specs.Meaning.{Meaning, count, with-at, with-block}
 use Rattle.store.specs.Calls.{GetDone, SetDone, WordFails, Lost}
-use Rattle.runs.specs.Blocks.{Copyable, Word, edit, splice, pasted}
-use Rattle.runs.proofs.Changes.{splice-none, splice-up, splice-down, block-self, word-over}
-use Rattle.runs.proofs.Exits.{Kin, lost-later, word-lost}
+use Rattle.copies.specs.Blocks.{Copyable, Word, edit, splice, pasted}
+use Rattle.copies.proofs.Changes.{splice-none, splice-up, splice-down, block-self, word-over}
+use Rattle.copies.proofs.Exits.{Kin, lost-later, word-lost}
 
 -- m with the places of block t from lo on, below hi, copied from block f, where a is copied to b
 abbrev pub run : Meaning → ℕ → ℕ → ℕ → ℕ → ℕ → ℕ → Meaning

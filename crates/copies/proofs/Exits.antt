@@ -13,8 +13,8 @@ use Rattle.store.specs.declared.fault.Refusal.the-variants.{Down}
 use Rattle.store.specs.Meaning.{Meaning, Fell, count, with-at}
 use Rattle.store.specs.Calls.{WordFails, GetDone, SetDone, Get, Set, Deep, Lost}
 use Rattle.store.specs.Calls.WordFails.{word-down, word-missing, word-outside}
-use Rattle.runs.specs.Work.{Work}
-use Rattle.runs.specs.Blocks.{Word, Read, Edited, edit}
+use Rattle.copies.specs.Work.{Work}
+use Rattle.copies.specs.Blocks.{Word, Read, Edited, edit}
 
 err-is : {T E : Type 0} (r : Result T E) (e : E) → ErrBy r (λ y. y ≡ e) → r ≡ Err e
 err-is (Ok x) e h = absurd h

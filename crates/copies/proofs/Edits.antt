@@ -11,8 +11,8 @@ use Rattle.std.proofs.shelf.Tests.{cases-lt, cases-eq}
 use Rattle.std.proofs.shelf.Ways.{tells}
 use Rattle.store.specs.Meaning.{Meaning, with-at, with-block}
 use Rattle.store.specs.Calls.{SetDone}
-use Rattle.runs.specs.Blocks.{edit, splice, pasted, filled, Word}
-use Rattle.runs.proofs.Changes.{with-at-here, with-at-other, splice-none, splice-up, block-self, block-over, word-over}
+use Rattle.copies.specs.Blocks.{edit, splice, pasted, filled, Word}
+use Rattle.copies.proofs.Changes.{with-at-here, with-at-other, splice-none, splice-up, block-self, block-over, word-over}
 
 -- what an edit leaves
 pub edit-here : (m n : Meaning) (b : ℕ) (F : (ℕ → ℕ) → ℕ → ℕ) → n ≡ edit m b F → n .words b ≡ F (m .words b)

@@ -1,9 +1,9 @@
 use mathlib.Core.Path.{_≡_}
 use Prim.Native.Nat.{_+_}
 use Rattle.store.specs.Calls.{Left}
-use Rattle.runs.specs.Blocks.{Copyable}
-use Rattle.runs.proofs.Copies.{run}
-use Rattle.runs.proofs.copy.copy_down.Given as given
+use Rattle.copies.specs.Blocks.{Copyable}
+use Rattle.copies.proofs.Copies.{run}
+use Rattle.copies.proofs.copy.copy_down.Given as given
 
 abbrev pub Inv-loop-i : given.InvT-loop-i
 Inv-loop-i g l =

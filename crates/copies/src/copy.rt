@@ -1,8 +1,8 @@
 // Runs of words copied between blocks, or within one.
 ghost use Prim.Native.Nat.{ℕ, _+_, _^_, _<_, _≤_};
 ghost use Rattle.store.specs.Calls.{Leaves};
-ghost use Rattle.runs.specs.Work.{Work};
-ghost use Rattle.runs.specs.Blocks.{Copyable, Pasted};
+ghost use Rattle.copies.specs.Work.{Work};
+ghost use Rattle.copies.specs.Blocks.{Copyable, Pasted};
 use store::blocks::Store;
 use store::fault::Fault;
 

@@ -6,7 +6,7 @@ use native.Mathlib.Omega.{arith}
 use lib.Dec.{eqb, ltb, leb}
 use Rattle.std.proofs.shelf.Ways.{tells}
 use Rattle.store.specs.Meaning.{Meaning, with-at, with-block, with-blocks}
-use Rattle.runs.specs.Blocks.{splice}
+use Rattle.copies.specs.Blocks.{splice}
 
 pub with-at-here : {X : Type 0} (f : ℕ → X) (x : ℕ) (v : X) → with-at f x v x ≡ v
 unfolding with-at

@@ -1,7 +1,7 @@
 use native.Mathlib.Omega.{arith}
-use Rattle.runs.proofs.Exits.{raised}
-use Rattle.runs.proofs.Copies.{run-none, run-all, run-down, run-unread, run-unwritten}
-use Rattle.runs.proofs.copy.copy_down.Needs as need
+use Rattle.copies.proofs.Exits.{raised}
+use Rattle.copies.proofs.Copies.{run-none, run-all, run-up, run-unread, run-unwritten}
+use Rattle.copies.proofs.copy.copy_up.Needs as need
 
 pub loop-i-holds : need.loop-i-holds
 loop-i-holds g c h = record { call = λ p. run-none _ _ _ _ _ _ _ (omega arith); ready = h }
@@ -11,14 +11,14 @@ loop-i-again g c h =
     let i = c .loop-i .inv h in
     let r = c .in-Continue-word .ensures tt .keeps (i .ready) in
     let w = c .in-Continue-set .ensures tt .keeps (r .ready) in
-    record { call = λ p. run-down _ _ _ _ _ _ _ _ _ (c .loop-i .i) _ _ (omega arith) (omega arith) (c .pre .downward) (i .call p) (r .call) (w .call); ready = w .ready }
+    record { call = λ p. run-up _ _ _ _ _ _ _ _ _ _ (c .pre .upward) (i .call p) (r .call) (w .call); ready = w .ready }
 
 pub returns-in-Break-word : need.returns-in-Break-word
 returns-in-Break-word g c =
     rw (raised _ _ (c .from-residual .ensures)) (λ h.
     let i = c .loop-i .inv h in
     let e = c .in-Break-word .ensures tt .keeps (i .ready) in
-    record { call = λ p. run-unread _ _ _ _ _ _ _ _ _ _ _ _ p (omega arith) (i .call p) (e .call) (e .deep); ready = e .ready })
+    record { call = λ p. run-unread _ _ _ _ _ _ _ _ _ _ _ _ p (c .loop-i-test .taken) (i .call p) (e .call) (e .deep); ready = e .ready })
 
 pub returns-in-Break-set : need.returns-in-Break-set
 returns-in-Break-set g c =
@@ -26,7 +26,7 @@ returns-in-Break-set g c =
     let i = c .loop-i .inv h in
     let r = c .in-Continue-word .ensures tt .keeps (i .ready) in
     let e = c .in-Break-set .ensures tt .keeps (r .ready) in
-    record { call = λ p. run-unwritten _ _ _ _ _ _ _ _ _ _ _ _ _ _ p (omega arith) (i .call p) (r .call) (e .call) (e .deep); ready = e .ready })
+    record { call = λ p. run-unwritten _ _ _ _ _ _ _ _ _ _ _ _ _ _ p (c .loop-i-test .taken) (i .call p) (r .call) (e .call) (e .deep); ready = e .ready })
 
 pub returns : need.returns
 returns g c h =
