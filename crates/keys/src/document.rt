@@ -9,3 +9,12 @@ pub struct DocumentName {
     ghost long: { length bytes ≡ 32 },
     ghost fits: { (k : ℕ) → getD bytes k 0 < 256 },
 }
+
+impl DocumentName {
+    // The name of these bytes.
+    pub fn new(bytes: [u8; 32]) -> DocumentName
+        ensures { λ r. ⌜ r .bytes ≡ bytes ⌝ }
+    {
+        DocumentName { bytes }
+    }
+}

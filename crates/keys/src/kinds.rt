@@ -94,10 +94,12 @@ pub impl Key for DueStamp as DueStampKey {
     }
 
     fn word(&self, i: u32) -> u64 {
-        match i {
-            0 => from_minute(self.minute),
-            1 => self.serial,
-            _ => 0,
+        if i == 0 {
+            from_minute(self.minute)
+        } else if i == 1 {
+            self.serial
+        } else {
+            0
         }
     }
 
