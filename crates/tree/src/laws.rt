@@ -1,0 +1,35 @@
+// The laws of the tree, each the contract of a function that does nothing.
+ghost use Rattle.tree.specs.Laws.{Rules-kept, Rebalancings-bounded, Blocks-counted, Places-suffice, Split-at-most, Way-down, Asked};
+ghost use Rattle.tree.specs.Tree.{Shape};
+use keys::key::Key;
+
+// An accepted update keeps the rules, and after any list of updates the tree holds the plain list's pairs.
+pub fn rules_kept<K: Key>()
+    ensures { λ _. ⌜ Rules-kept (K·Key .order) ⌝ }
+{}
+
+// At each level, rebalancings × (W / 8 + 1) are at most the accepted updates.
+pub fn rebalancings_bounded<K: Key>()
+    ensures { λ _. ⌜ Rebalancings-bounded (K·Key .order) ⌝ }
+{}
+
+// What an insertion takes and a deletion gives back.
+pub fn blocks_counted<K: Key>()
+    ensures { λ _. ⌜ ((s : Shape) → Blocks-counted (K·Key .order) s) ⌝ }
+{}
+
+// How many entries a node can have, even one just merged.
+pub fn places_suffice<K: Key>()
+    ensures { λ _. ⌜ Places-suffice (K·Key .order) ⌝ }
+{}
+
+// Where a node is split, and which way a key goes down.
+pub fn split_and_way<K: Key>()
+    ensures splits { λ _. ⌜ ((s : Shape) → Split-at-most (K·Key .order) s) ⌝ }
+    ensures way { λ _. ⌜ Way-down (K·Key .order) ⌝ }
+{}
+
+// Find, floor, rank, report and the count of an interval by going down.
+pub fn answers_agree<K: Key>()
+    ensures { λ _. ⌜ Asked (K·Key .order) ⌝ }
+{}
