@@ -13,7 +13,7 @@ use Rattle.std.specs.declared.option.Option.the-variants.{None, Some}
 use Rattle.std.specs.declared.result.Result.the-variants.{Err}
 use Rattle.keys.specs.declared.checkpoint.Checkpoint.{Checkpoint}
 use Rattle.keys.specs.Checkpoints.{order as checkpoint-order}
-use Rattle.plain.specs.Plain.{Plain, Call, Answer, updated, step, Sorted, find, floor, rank, up-to, within}
+use Rattle.plain.specs.Plain.{Plain, Call, step, inserts, deletes, reports, Sorted, find, floor, rank, up-to, within}
 use Rattle.plain.specs.Resume.{resume}
 use Rattle.plain.specs.declared.pair.Pair.{Pair}
 
@@ -42,6 +42,12 @@ module _ {K : Type 0} (order : K → K → Ordering) where
     pub counted : length (within order low high ps) ≡ up-to order high ps - rank order low ps
     pub none : order low high ≡ Greater → within order low high ps ≡ []
 
+  -- a refusal leaves list, tally, and lent keys and handles as they were
+  pub record Refusals (most : ℕ) (s : Plain K) : Type 0 where
+    pub insertion : (k : K) (h : ℕ) (no-room : Bool) (n : ℕ) → inserts order most k h no-room s .0 ≡ Err n → inserts order most k h no-room s .1 ≡ s
+    pub deletion : (k : K) (n : ℕ) → deletes order most k s .0 ≡ Err n → deletes order most k s .1 ≡ s
+    pub report : (low high : K) (ks : List K) (hs : List ℕ) (n : ℕ) → reports order most low high (s .pairs) ks hs .0 ≡ Err n → (reports order most low high (s .pairs) ks hs .1 ≡ ks) × (reports order most low high (s .pairs) ks hs .2 ≡ hs)
+
   -- the laws at one list
   pub record Listing (ps : List (Pair K)) : Type 0 where
     pub finds : (k : K) → Handle-of k ps (find order k ps)
@@ -50,9 +56,9 @@ module _ {K : Type 0} (order : K → K → Ordering) where
     -- every call keeps the keys ascending
     pub kept : (most n : ℕ) (call : Call K) (no-room : Bool) → Sorted order (step order most (record { pairs = ps; tally = n }) call no-room .1 .pairs)
 
-  -- they hold of every list in ascending order
+  -- they hold of every list in ascending order; refusals change nothing in any
   abbrev pub Plain-laws : Type 0
-  Plain-laws = (ps : List (Pair K)) → Sorted order ps → Listing ps
+  Plain-laws = ((ps : List (Pair K)) → Sorted order ps → Listing ps) × ((most : ℕ) (s : Plain K) → Refusals most s)
 
 -- r is the last step of the case, or nothing where the case has none
 abbrev pub Last-step : ℕ → List (Pair Checkpoint) → Option (Pair Checkpoint) → Type 0

@@ -1,5 +1,5 @@
 -- Where a case is taken up again.
-use mathlib.Core.Bool.{cond}
+use mathlib.Core.Bool.{Bool, cond}
 use mathlib.Core.List.{List}
 use Prim.Native.Nat.{ℕ, _%_, _^_}
 use lib.Dec.{eqb}
@@ -7,7 +7,7 @@ use Rattle.std.specs.declared.option.Option.{Option}
 use Rattle.std.specs.declared.option.Option.the-variants.{None, Some}
 use Rattle.keys.specs.Checkpoints.{order, below}
 use Rattle.keys.specs.declared.checkpoint.Checkpoint.{Checkpoint}
-use Rattle.plain.specs.Plain.{floor}
+use Rattle.plain.specs.Plain.{Plain, Call, Answer, nearest, step, floor}
 use Rattle.plain.specs.declared.pair.Pair.{Pair}
 
 -- the pair, if it belongs to the case
@@ -22,3 +22,13 @@ last-of case = record { case = case % 2 ^ 32; step = 4294967295; fits = (below c
 -- the floor of the case's largest checkpoint, or nothing if that is another case's
 abbrev pub resume : ℕ → List (Pair Checkpoint) → Option (Pair Checkpoint)
 resume case ps = of-case case (floor order (last-of case) ps)
+
+-- the calls on a list of checkpoints: those of any list, and resume
+pub data Checkpoint-call : Type 0 where
+  any : Call Checkpoint → Checkpoint-call
+  resume-case : ℕ → Checkpoint-call
+
+-- what such a call answers and leaves
+abbrev pub checkpoint-step : ℕ → Plain Checkpoint → Checkpoint-call → Bool → Answer Checkpoint × Plain Checkpoint
+checkpoint-step most s (any call) no-room = step order most s call no-room
+checkpoint-step most s (resume-case case) no-room = (nearest (resume case (s .pairs)), s)

@@ -2,7 +2,8 @@
 ghost use Rattle.plain.specs.Laws.{Plain-laws, Resumes};
 use keys::key::Key;
 
-// Finding and floor mean what they say, an interval is counted by two ranks, and every call keeps the keys ascending.
+// Finding and floor mean what they say, an interval is counted by two ranks, every call keeps the keys ascending, and a
+// refusal changes nothing.
 pub fn plain_list<K: Key>()
     ensures { λ _. ⌜ Plain-laws (K·Key .order) ⌝ }
 {}

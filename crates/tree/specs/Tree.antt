@@ -13,8 +13,7 @@ use Rattle.tree.specs.declared.mark.Mark.{Mark}
 use Rattle.tree.specs.declared.mark.Mark.the-variants.{Nothing, Split, Merge, MergeSplit}
 use Rattle.plain.specs.declared.pair.Pair.{Pair}
 
--- The shape of trees: a leaf holds at most eight times `eighth` pairs, and W(l), the most that a node of level l may weigh, is branching times that of
--- the level below. No root stands above level `top`.
+-- a leaf holds at most 8 * eighth pairs, W grows by the branching from level to level, and no root stands above the top
 pub record Shape : Type 0 where
   pub eighth : ℕ
   pub branching : ℕ
@@ -155,11 +154,11 @@ pub record Tree (K : Type 0) : Type 0 where
 abbrev pub empty : (K : Type 0) → Tree K
 empty K = record { level = 0; root = [] }
 
--- all pairs in order, and how many
+-- all pairs in order
 abbrev pub content : (K : Type 0) → Tree K → List (Pair K)
 content K t = pairs K (suc (t .level)) (t .root)
 
--- how much the root weighs
+-- how many they are, which is what the root weighs
 abbrev pub size : (K : Type 0) → Tree K → ℕ
 size K t = weight K (suc (t .level)) (t .root)
 

@@ -1,6 +1,12 @@
 // The laws of the tree, each the contract of a function that does nothing.
+ghost use Prim.Native.Nat.{ℕ};
+ghost use mathlib.Core.Path.{_≡_};
+ghost use Rattle.keys.specs.Checkpoints.{order as checkpoint-order};
+ghost use Rattle.keys.specs.declared.checkpoint.Checkpoint.{Checkpoint};
+ghost use Rattle.plain.specs.Resume.{of-case, last-of, resume};
 ghost use Rattle.tree.specs.Laws.{Rules-kept, Rebalancings-bounded, Blocks-counted, Places-suffice, Split-at-most, Way-down, Asked};
-ghost use Rattle.tree.specs.Tree.{Shape};
+ghost use Rattle.tree.specs.Queries.{floor-down};
+ghost use Rattle.tree.specs.Tree.{Shape, Tree, Rules, unit-of, content};
 use keys::key::Key;
 
 // An accepted update keeps the rules, and after any list of updates the tree holds the plain list's pairs.
@@ -32,4 +38,9 @@ pub fn split_and_way<K: Key>()
 // Find, floor, rank, report and the count of an interval by going down.
 pub fn answers_agree<K: Key>()
     ensures { λ _. ⌜ Asked (K·Key .order) ⌝ }
+{}
+
+// Resume by going down, for checkpoints.
+pub fn resume_agrees()
+    ensures { λ _. ⌜ ((s : Shape) (t : Tree Checkpoint) → Rules checkpoint-order (unit-of s) (s .top) t → (case : ℕ) → of-case case (floor-down checkpoint-order (t .level) (last-of case) (t .root)) ≡ resume case (content Checkpoint t)) ⌝ }
 {}
