@@ -67,7 +67,7 @@ module _ {K : Type 0} (order : K → K → Ordering) (unit : ℕ → ℕ) (units
           total (nodes K (suc (t .level))) (cond b (left K unit (t .level) (ins order unit (t .level) k h (t .root)) ∷ right K unit (t .level) (ins order unit (t .level) k h (t .root)) ∷ []) (ins order unit (t .level) k h (t .root) ∷ [])) ≡ cond b 1 0 + nodes K (suc (t .level)) (ins order unit (t .level) k h (t .root)) →
           total (nodes K (t .level)) (ins order unit (t .level) k h (t .root)) ≡ total (nodes K (t .level)) (t .root) + full-below order unit (t .level) k (t .root) →
           blocks K (cond b (record { level = suc (t .level); root = left K unit (t .level) (ins order unit (t .level) k h (t .root)) ∷ right K unit (t .level) (ins order unit (t .level) k h (t .root)) ∷ [] }) (record { level = t .level; root = ins order unit (t .level) k h (t .root) }))
-          ≡ blocks K t + (full-below order unit (t .level) k (t .root) + cond c 2 0)
+          ≡ blocks K t + ((full-below order unit (t .level) k (t .root) + cond c 1 0) + cond c 1 0)
       go true c e p q = rw (← e) (omega arith)
       go false c e p q = rw (← e) (omega arith)
 

@@ -21,7 +21,8 @@ use Rattle.plain.proofs.Alls.{all-map, all-back}
 use Rattle.plain.proofs.Pairs.{Low, High, put-after, put-before, find-after, find-before, cut-after, cut-before, sorted-front, sorted-back, sorted-across}
 use Rattle.plain.proofs.Floors.{highs}
 use Rattle.tree.specs.Lists.{total, onto, joined, Place, seek}
-use Rattle.tree.specs.Tree.{Item, Kids, Fit, weight, pairs, starts, left, right, split-above, grown, merged, fused, mended, under, route, ins, del}
+use Rattle.std.specs.declared.option.Option.the-variants.{Some}
+use Rattle.tree.specs.Tree.{Item, smallest, Kids, Fit, weight, pairs, starts, left, right, split-above, grown, merged, fused, mended, under, route, ins, del}
 use Rattle.tree.specs.Queries.{find-down}
 use Rattle.tree.proofs.Lists.{all-of-onto, joined-append, joined-onto, halves, Stops, Passed, seek-back, seek-stops, seek-passed}
 use Rattle.tree.proofs.Units.{Units, unit-some}
@@ -80,14 +81,15 @@ module _ {K : Type 0} {order : K → K → Ordering} (o : Orderly order) (unit :
     pub q : Pair K
     pub rest : List (Pair K)
     pub is : pairs K l x ≡ q ∷ rest
+    pub least : smallest K l x ≡ Some (q .key)
     pub tells : (k : K) → starts order l k x ≡ isLe (order (q .key) k)
 
   pub first : (l : ℕ) (x : Item K l) → Fit K unit l x → First l x
-  first zero x f = record { q = x; rest = []; is = refl; tells = λ k. refl }
+  first zero x f = record { q = x; rest = []; is = refl; least = refl; tells = λ k. refl }
   first (suc l) [] f = absurd (omega (arith, f .0, unit-some unit units l))
   first (suc l) (c ∷ cs) f =
       let r = first l c (f .2 .0) in
-      record { q = r .q; rest = r .rest ++ joined (pairs K l) cs; is = ap (λ z. z ++ joined (pairs K l) cs) (r .is); tells = r .tells }
+      record { q = r .q; rest = r .rest ++ joined (pairs K l) cs; is = ap (λ z. z ++ joined (pairs K l) cs) (r .is); least = r .least; tells = r .tells }
 
   -- the pairs before the place that k leads to, there, and after it
   pub record Around (k : K) (front mid back : List (Pair K)) : Type 0 where

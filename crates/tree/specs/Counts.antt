@@ -29,9 +29,9 @@ module _ {K : Type 0} (order : K → K → Ordering) (unit : ℕ → ℕ) where
   full-below (suc l) k [] = 0
   full-below (suc l) k (c ∷ cs) = let at = route order (suc l) k c cs in cond (full K unit l (at .here)) 1 0 + full-below l k (at .here)
 
-  -- the blocks that an insertion of k takes: one for each full node on the path, one more for a full root
+  -- the blocks that an insertion of k takes: one for each full node on its path, the root among them, and one more if the root is full
   abbrev pub taken : K → Tree K → ℕ
-  taken k t = full-below (t .level) k (t .root) + cond (full K unit (t .level) (t .root)) 2 0
+  taken k t = let root = cond (full K unit (t .level) (t .root)) 1 0 in (full-below (t .level) k (t .root) + root) + root
 
 -- a merge gives a block back, unless it is split again
 abbrev pub gives : Mark → ℕ

@@ -1,12 +1,13 @@
 -- The tree as lists of lists, its rules, and what an update does.
-use mathlib.Core.Bool.{Bool, true, false, cond}
-use mathlib.Core.List.{List, [], _∷_, _++_}
+use mathlib.Core.Bool.{Bool, false, cond}
 use Prim.Native.Nat.{ℕ, zero, suc, _*_, _^_, _≤_}
 use lib.Dec.{ltb, eqb}
-use lib.ListN.{length}
+use Rattle.std.specs.Options.{mapped, valueOr}
 use Rattle.std.specs.Orderings.{isLe}
-use Rattle.std.specs.shelf.Lists.{All}
+use Rattle.std.specs.shelf.Lists.{List, [], _∷_, _++_, length, All}
 use Rattle.std.specs.declared.cmp.Ordering.{Ordering}
+use Rattle.std.specs.declared.option.Option.{Option}
+use Rattle.std.specs.declared.option.Option.the-variants.{None, Some}
 use Rattle.tree.specs.Lists.{total, joined, onto, first-half, second-half, Place, seek}
 use Rattle.plain.specs.Plain.{Sorted, put, cut}
 use Rattle.tree.specs.declared.mark.Mark.{Mark}
@@ -36,6 +37,12 @@ module _ (K : Type 0) where
   weight zero x = 1
   weight (suc l) xs = total (weight l) xs
 
+  -- the smallest key, where keys ascend
+  abbrev pub smallest : (l : ℕ) → Item K l → Option K
+  smallest zero x = Some (x .key)
+  smallest (suc l) [] = None
+  smallest (suc l) (x ∷ xs) = smallest l x
+
   -- the pairs in order
   abbrev pub pairs : (l : ℕ) → Item K l → List (Pair K)
   pairs zero x = x ∷ []
@@ -52,7 +59,7 @@ module _ (K : Type 0) (unit : ℕ → ℕ) where
   Kids zero x = Unit {0}
   Kids (suc l) x = 2 ≤ length x
 
-  -- the two nodes that a node is split into (laws: Largest, Leaf-halved)
+  -- the two nodes that a node is split into (law: Splits)
   abbrev pub left : (l : ℕ) → Item K (suc l) → Item K (suc l)
   left l x = first-half (weight K l) (weight K (suc l) x) 0 x
 
@@ -103,9 +110,7 @@ module _ (K : Type 0) (unit : ℕ → ℕ) where
 module _ {K : Type 0} (order : K → K → Ordering) where
   -- the smallest key of an item is at most k
   abbrev pub starts : (l : ℕ) → K → Item K l → Bool
-  starts zero k x = isLe (order (x .key) k)
-  starts (suc l) k [] = false
-  starts (suc l) k (x ∷ xs) = starts l k x
+  starts l k x = valueOr (mapped (λ m. isLe (order m k)) (smallest K l x)) false
 
   -- the way down: the child of c ∷ cs that k leads to (law: Way-down)
   abbrev pub route : (l : ℕ) → K → Item K l → List (Item K l) → Place (Item K l)
@@ -191,12 +196,12 @@ pub data Update (K : Type 0) : Type 0 where
   drops : K → Update K
 
 module _ {K : Type 0} (order : K → K → Ordering) (unit : ℕ → ℕ) where
-  -- the tree after an update
+  -- the tree after an update (laws: Rules-kept, Blocks-counted)
   abbrev pub updated : Tree K → Update K → Tree K
   updated t (adds k h) = raised K unit (t .level) (ins order unit (t .level) k h (t .root))
   updated t (drops k) = lowered K (t .level) (del order unit (t .level) k (t .root))
 
-  -- its mark at level j; a root never merges
+  -- its mark at level j; a root never merges (law: Rebalancings-bounded)
   abbrev pub mark : ℕ → Tree K → Update K → Mark
   mark j t (adds k h) = cond (eqb j (t .level)) (cond (over K unit (t .level) (ins order unit (t .level) k h (t .root))) Split Nothing) (ins-mark order unit j (t .level) k h (t .root))
   mark j t (drops k) = del-mark order unit j (t .level) k (t .root)

@@ -8,6 +8,7 @@ pub returns : need.returns
 returns g c =
     let o = g .K·Key·met .ordered in
     record {
-      splits = λ s. record { splits = splits _ (unit-of s); leaves = leaf-halved _ (unit-of s) };
-      way = λ s l k c cs f a. (length (route (g .K·Key .order) l k c cs .before), route-last o (unit-of s) (shape-units s) l k c cs f a, route-at o (unit-of s) (shape-units s) l k c cs);
+      splits = λ s. record { parts = splits _ (unit-of s); leaf = leaf-halved _ (unit-of s) };
+      way = λ s l k c cs f a.
+          (length (route (g .K·Key .order) l k c cs .before), route-last o (unit-of s) (shape-units s) l k c cs f a, route-at o (unit-of s) (shape-units s) l k c cs);
     }
