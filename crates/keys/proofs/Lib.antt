@@ -1,2 +1,7 @@
 pub mod Alike
+pub mod Bytes
+pub mod Digits
+pub mod Halves
+pub mod Lawful
 pub mod Ranks
+pub mod Totals

@@ -1,0 +1,5 @@
+pub mod Alls
+pub mod Pairs
+pub mod Floors
+pub mod Cases
+pub mod Steps
