@@ -50,12 +50,12 @@ pub refusals : {K : Type 0} (order : K → K → Ordering) (most : ℕ) (s : Pla
 refusals {K} order most s = record {
   insertion = λ k h no-room. unsettled (refuses-insert order most k no-room (s .pairs)) (put order k h (s .pairs)) s;
   deletion = λ k. unsettled (refuses-delete order k (s .pairs)) (cut order k (s .pairs)) s;
-  report = λ low high ks hs n. go low high ks hs n (eqb (length ks) (length hs));
+  report = λ low high ks hs n. go (within order low high (s .pairs)) ks hs n (eqb (length ks) (length hs));
 }
   where
-    go : (low high : K) (ks : List K) (hs : List ℕ) (n : ℕ) (b : Bool) →
-        cond {A = Result ℕ ℕ × List K × List ℕ} b (Ok (length (within order low high (s .pairs))), over (λ p. p .key) (within order low high (s .pairs)) ks, over (λ p. p .handle) (within order low high (s .pairs)) hs) (Err 7, ks, hs) .0 ≡ Err n →
-        (cond {A = Result ℕ ℕ × List K × List ℕ} b (Ok (length (within order low high (s .pairs))), over (λ p. p .key) (within order low high (s .pairs)) ks, over (λ p. p .handle) (within order low high (s .pairs)) hs) (Err 7, ks, hs) .1 ≡ ks)
-        × (cond {A = Result ℕ ℕ × List K × List ℕ} b (Ok (length (within order low high (s .pairs))), over (λ p. p .key) (within order low high (s .pairs)) ks, over (λ p. p .handle) (within order low high (s .pairs)) hs) (Err 7, ks, hs) .2 ≡ hs)
-    go low high ks hs n true e = absurd (no-error _ n e)
-    go low high ks hs n false e = (refl, refl)
+    go : (qs : List (Pair K)) (ks : List K) (hs : List ℕ) (n : ℕ) (b : Bool) →
+        cond {A = Result ℕ ℕ × List K × List ℕ} b (Ok (length qs), over (λ p. p .key) qs ks, over (λ p. p .handle) qs hs) (Err 7, ks, hs) .0 ≡ Err n →
+        (cond {A = Result ℕ ℕ × List K × List ℕ} b (Ok (length qs), over (λ p. p .key) qs ks, over (λ p. p .handle) qs hs) (Err 7, ks, hs) .1 ≡ ks)
+        × (cond {A = Result ℕ ℕ × List K × List ℕ} b (Ok (length qs), over (λ p. p .key) qs ks, over (λ p. p .handle) qs hs) (Err 7, ks, hs) .2 ≡ hs)
+    go qs ks hs n true e = absurd (no-error _ n e)
+    go qs ks hs n false e = (refl, refl)

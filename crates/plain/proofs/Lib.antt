@@ -3,3 +3,4 @@ pub mod Pairs
 pub mod Floors
 pub mod Cases
 pub mod Steps
+pub mod Lookups

@@ -1,10 +1,10 @@
 -- What holds of the plain sorted list.
 use mathlib.Core.Path.{_≡_}
-use mathlib.Core.Bool.{Bool, true}
+use mathlib.Core.Bool.{Bool, true, false, cond}
 use mathlib.Core.List.{List, [], _∷_, _++_}
 use Prim.Native.Nat.{ℕ, _-_, _^_, _≤_, _<_}
 use lib.ListN.{length}
-use Rattle.std.specs.Orderings.{isLe}
+use Rattle.std.specs.Orderings.{isLe, isEq}
 use Rattle.std.specs.shelf.Lists.{All}
 use Rattle.std.specs.declared.cmp.Ordering.{Ordering}
 use Rattle.std.specs.declared.cmp.Ordering.the-variants.{Less, Equal, Greater}
@@ -13,7 +13,7 @@ use Rattle.std.specs.declared.option.Option.the-variants.{None, Some}
 use Rattle.std.specs.declared.result.Result.the-variants.{Err}
 use Rattle.keys.specs.declared.checkpoint.Checkpoint.{Checkpoint}
 use Rattle.keys.specs.Checkpoints.{order as checkpoint-order}
-use Rattle.plain.specs.Plain.{Plain, Call, step, inserts, deletes, reports, Sorted, find, floor, rank, up-to, within}
+use Rattle.plain.specs.Plain.{Plain, Call, step, inserts, deletes, reports, Sorted, find, present, put, cut, floor, rank, up-to, within}
 use Rattle.plain.specs.Resume.{resume}
 use Rattle.plain.specs.declared.pair.Pair.{Pair}
 
@@ -45,12 +45,15 @@ module _ {K : Type 0} (order : K → K → Ordering) where
   -- a refusal leaves list, tally, and lent keys and handles as they were
   pub record Refusals (most : ℕ) (s : Plain K) : Type 0 where
     pub insertion : (k : K) (h : ℕ) (no-room : Bool) (n : ℕ) → inserts order most k h no-room s .0 ≡ Err n → inserts order most k h no-room s .1 ≡ s
-    pub deletion : (k : K) (n : ℕ) → deletes order most k s .0 ≡ Err n → deletes order most k s .1 ≡ s
-    pub report : (low high : K) (ks : List K) (hs : List ℕ) (n : ℕ) → reports order most low high (s .pairs) ks hs .0 ≡ Err n → (reports order most low high (s .pairs) ks hs .1 ≡ ks) × (reports order most low high (s .pairs) ks hs .2 ≡ hs)
+    pub deletion : (k : K) (n : ℕ) → deletes order k s .0 ≡ Err n → deletes order k s .1 ≡ s
+    pub report : (low high : K) (ks : List K) (hs : List ℕ) (n : ℕ) → reports order low high (s .pairs) ks hs .0 ≡ Err n → (reports order low high (s .pairs) ks hs .1 ≡ ks) × (reports order low high (s .pairs) ks hs .2 ≡ hs)
 
   -- the laws at one list
   pub record Listing (ps : List (Pair K)) : Type 0 where
     pub finds : (k : K) → Handle-of k ps (find order k ps)
+    -- a pair put in is found, and every other key as before; a key cut out is not, and every other as before
+    pub puts : (k : K) (h : ℕ) (q : K) → present order k ps ≡ false → find order q (put order k h ps) ≡ cond (isEq (order k q)) (Some h) (find order q ps)
+    pub cuts : (k q : K) → find order q (cut order k ps) ≡ cond (isEq (order k q)) None (find order q ps)
     pub floors : (k : K) → Floor k ps (floor order k ps)
     pub intervals : (low high : K) → Interval low high ps
     -- every call keeps the keys ascending

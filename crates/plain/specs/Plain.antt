@@ -1,13 +1,11 @@
 -- The plain sorted list: pairs in ascending order of their keys, a tally of accepted updates, and every call.
 use mathlib.Core.Bool.{Bool, cond, _&&_}
-use mathlib.Core.List.{List, [], _∷_}
 use Prim.Native.Nat.{ℕ, _+_, _-_, _^_, min}
 use lib.Dec.{leb, eqb}
-use lib.ListN.{length}
 use Rattle.std.specs.Iters.{lastOr}
 use Rattle.std.specs.Options.{isSome}
 use Rattle.std.specs.Orderings.{isLt, isLe, isEq, isGe}
-use Rattle.std.specs.shelf.Lists.{kept-by}
+use Rattle.std.specs.shelf.Lists.{List, [], _∷_, _++_, map, length, take, drop, kept-by}
 use Rattle.std.specs.declared.cmp.Ordering.{Ordering}
 use Rattle.std.specs.declared.option.Option.{Option}
 use Rattle.std.specs.declared.option.Option.the-variants.{None, Some}
@@ -78,11 +76,9 @@ abbrev pub settled : {K : Type 0} → Option ℕ → List (Pair K) → Plain K �
 settled (Some n) ps s = (Err n, s)
 settled None ps s = (Ok tt, record { pairs = ps; tally = one-more (s .tally) })
 
--- what f gives of ps, written over the first places of ys, as far as they go
+-- what f gives of ps in the first places of ys, as many as there are; the other places as they were
 abbrev pub over : {P X : Type 0} → (P → X) → List P → List X → List X
-over f [] ys = ys
-over f (p ∷ ps) [] = []
-over f (p ∷ ps) (y ∷ ys) = f p ∷ over f ps ys
+over f ps ys = map f (take (length ys) ps) ++ drop (length ps) ys
 
 -- the calls; a report comes with what the lent keys and handles hold
 pub data Call (K : Type 0) : Type 0 where
@@ -93,17 +89,17 @@ pub data Call (K : Type 0) : Type 0 where
 
 -- the answers, refusals by number; a report's with what the lent keys and handles hold then
 pub data Answer (K : Type 0) : Type 0 where
-  updated : Result (Unit {0}) ℕ → Answer K
+  outcome : Result (Unit {0}) ℕ → Answer K
   found : Option ℕ → Answer K
   nearest : Option (Pair K) → Answer K
   number : ℕ → Answer K
   reported : Result ℕ ℕ → List K → List ℕ → Answer K
   reopened : Answer K
 
-module _ {K : Type 0} (order : K → K → Ordering) (most : ℕ) where
-  -- an insertion, told whether the index has no room for it
-  abbrev pub inserts : K → ℕ → Bool → Plain K → Result (Unit {0}) ℕ × Plain K
-  inserts k h no-room s = settled (refuses-insert order most k no-room (s .pairs)) (put order k h (s .pairs)) s
+module _ {K : Type 0} (order : K → K → Ordering) where
+  -- an insertion into a list of at most so many keys, told whether the index has no room for it
+  abbrev pub inserts : ℕ → K → ℕ → Bool → Plain K → Result (Unit {0}) ℕ × Plain K
+  inserts most k h no-room s = settled (refuses-insert order most k no-room (s .pairs)) (put order k h (s .pairs)) s
 
   -- a deletion
   abbrev pub deletes : K → Plain K → Result (Unit {0}) ℕ × Plain K
@@ -116,12 +112,12 @@ module _ {K : Type 0} (order : K → K → Ordering) (most : ℕ) where
       cond (eqb (length ks) (length hs)) (Ok (length qs), over (λ p. p .key) qs ks, over (λ p. p .handle) qs hs) (Err 7, ks, hs)
 
   -- what a call answers and leaves
-  abbrev pub step : Plain K → Call K → Bool → Answer K × Plain K
-  step s (insert k h) no-room = let r = inserts k h no-room s in (updated (r .0), r .1)
-  step s (delete k) no-room = let r = deletes k s in (updated (r .0), r .1)
-  step s (find-key k) no-room = (found (find order k (s .pairs)), s)
-  step s (floor-key k) no-room = (nearest (floor order k (s .pairs)), s)
-  step s (rank-key k) no-room = (number (rank order k (s .pairs)), s)
-  step s (report low high ks hs) no-room = let r = reports low high (s .pairs) ks hs in (reported (r .0) (r .1) (r .2), s)
-  step s read-tally no-room = (number (s .tally), s)
-  step s reopen no-room = (reopened, record { pairs = s .pairs; tally = 0 })
+  abbrev pub step : ℕ → Plain K → Call K → Bool → Answer K × Plain K
+  step most s (insert k h) no-room = let r = inserts most k h no-room s in (outcome (r .0), r .1)
+  step most s (delete k) no-room = let r = deletes k s in (outcome (r .0), r .1)
+  step most s (find-key k) no-room = (found (find order k (s .pairs)), s)
+  step most s (floor-key k) no-room = (nearest (floor order k (s .pairs)), s)
+  step most s (rank-key k) no-room = (number (rank order k (s .pairs)), s)
+  step most s (report low high ks hs) no-room = let r = reports low high (s .pairs) ks hs in (reported (r .0) (r .1) (r .2), s)
+  step most s read-tally no-room = (number (s .tally), s)
+  step most s reopen no-room = (reopened, record { pairs = s .pairs; tally = 0 })
