@@ -1,0 +1,46 @@
+-- A table's lines as they are read and set.
+use mathlib.Core.Path.{_≡_, refl, sym, ap, _∙_}
+use mathlib.Core.Bool.{Bool, true, false}
+use mathlib.Core.List.{List, [], _∷_, _++_, map}
+use mathlib.Core.Logic.{⊎-elim}
+use Prim.Native.Nat.{ℕ, zero, suc, _+_, _<_, _≤_}
+use native.Mathlib.Omega.{arith}
+use native.Mathlib.Bridge.{le-prop}
+use lib.ListN.{length, set, getD}
+use Rattle.std.specs.Of.Vec.{vec-items, vec-len}
+use Rattle.std.proofs.shelf.Lists.{getD-map, map-set, set-getD, getD-past, length-map}
+use Rattle.std.proofs.shelf.Tests.{cases-eq, cases-lt}
+use Rattle.cache.specs.declared.line.Line.{Line}
+use Rattle.cache.specs.declared.line.LineTable.{LineTable}
+use Rattle.cache.specs.Lines.{View, view, views, nth, blank, Clear}
+
+pub same-table : (t : LineTable) (p : 1 ≤ vec-len (t .lines)) (q : vec-len (t .lines) ≤ 16) → _≡_ {A = LineTable} record { lines = t .lines; clock = t .clock; lost = t .lost; some = p; few = q } t
+same-table t p q = λ j. record { lines = t .lines; clock = t .clock; lost = t .lost; some = le-prop p (t .some) j; few = le-prop q (t .few) j }
+
+pub view-at : (ls : List Line) (i : ℕ) (l : Line) → i < length ls → l ≡ getD ls i l → nth (views ls) i ≡ view l
+view-at ls i l h e = getD-map view ls i l blank h ∙ ap view (sym e)
+
+pub used-at : (ls : List Line) (i : ℕ) (l : Line) → i < length ls → l ≡ getD ls i l → getD (map (λ x. x .used) ls) i 0 ≡ l .used
+used-at ls i l h e = getD-map (λ x. x .used) ls i l 0 h ∙ ap (λ x. x .used) (sym e)
+
+pub views-set : (ls : List Line) (i : ℕ) (w : Line) → views (set ls i w) ≡ set (views ls) i (view w)
+views-set ls i w = map-set view ls i w
+
+pub views-kept : (ls : List Line) (i : ℕ) (l w : Line) → i < length ls → l ≡ getD ls i l → view w ≡ view l → views (set ls i w) ≡ views ls
+views-kept ls i l w h e q = views-set ls i w ∙ ap (set (views ls) i) (q ∙ sym (view-at ls i l h e)) ∙ set-getD (views ls) i blank
+
+pub ages-set : (ls : List Line) (i : ℕ) (w : Line) → map (λ x. x .used) (set ls i w) ≡ set (map (λ x. x .used) ls) i (w .used)
+ages-set ls i w = map-set (λ x. x .used) ls i w
+
+pub none-past : (ls : List Line) (k : ℕ) → length ls ≤ k → nth (views ls) k ≡ blank
+none-past ls k h = getD-past (views ls) k blank (let e = length-map ls view in omega arith)
+
+-- what is shown of each place below i, shown of each
+pub all-below : (ls : List Line) (P : View → Type 0) → P blank → ((k : ℕ) → k < length ls → P (nth (views ls) k)) → (k : ℕ) → P (nth (views ls) k)
+all-below ls P z h k = ⊎-elim (h k) (λ q. rw (none-past ls k q) z) (cases-lt k (length ls))
+
+pub clear-push : (ls : List Line) (l : Line) → l .block ≡ 0 → Clear (views ls) → Clear (views (ls ++ l ∷ []))
+clear-push [] l z c zero = z
+clear-push [] l z c (suc k) = refl
+clear-push (x ∷ xs) l z c zero = c 0
+clear-push (x ∷ xs) l z c (suc k) = clear-push xs l z (λ j. c (suc j)) k

@@ -1,0 +1,17 @@
+use mathlib.Core.Path.{_≡_, refl, sym, ap, _∙_}
+use native.Mathlib.Omega.{arith}
+use lib.ListN.{set}
+use Rattle.cache.specs.Lines.{table-views, set-view}
+use Rattle.cache.proofs.TableLines.{view-at, views-set}
+use Rattle.cache.proofs.line.LineTable.write.Needs as need
+
+pub returns : need.returns
+returns c =
+    let t = c .args .self .now in
+    let l = c .at .result .now in
+    let i = c .args .i in
+    let v = view-at (t .lines .items) i l (omega (arith, t .lines .ok .0, c .pre)) (c .at .ensures .value) in
+    record {
+      lost = refl;
+      views = views-set (t .lines .items) i (c .put .last .self) ∙ ap (set (table-views t) i) (c .put .ensures ∙ ap (λ x. set-view x (c .args .place) (c .args .word)) (sym v));
+    }
