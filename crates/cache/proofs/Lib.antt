@@ -1,1 +1,3 @@
 pub mod TableLines
+pub mod Parts
+pub mod Exits

@@ -1,3 +1,4 @@
 // A write-back cache over any store.
 pub mod line;
+mod moves;
 pub mod table;

@@ -1,0 +1,75 @@
+-- What the steps of a cache answer, and what they leave.
+use mathlib.Core.Path.{_≡_}
+use mathlib.Core.Bool.{Bool, true, false, cond}
+use mathlib.Core.List.{List}
+use Prim.Native.Nat.{ℕ, _<_, _≤_}
+use lib.ListN.{length, getD}
+use Rattle.std.specs.declared.option.Option.{Option}
+use Rattle.std.specs.declared.option.Option.the-variants.{Some, None}
+use Rattle.std.specs.declared.result.Result.{Result}
+use Rattle.std.specs.declared.result.Result.the-variants.{Ok, Err}
+use Rattle.store.specs.declared.fault.Fault.{Fault}
+use Rattle.store.specs.declared.fault.Refusal.the-variants.{Down}
+use Rattle.store.specs.Meaning.{Meaning, Fell, count, with-block}
+use Rattle.store.specs.Calls.{WordFails, Deep}
+use Rattle.cache.specs.declared.line.LineTable.{LineTable}
+use Rattle.cache.specs.Lines.{View, nth, table-views, goes}
+use Rattle.cache.specs.Cache.{word-of, cached, flat, Whole, Held}
+
+-- the store fell, and f says so
+pub record Falls (f : Fault) (m n : Meaning) : Type 0 where
+  pub refusal : f .refusal ≡ Down
+  pub fell : Fell m n
+  pub deep : f .depth ≡ m .shape .depth (f .refusal) (count m)
+
+-- all words of a block written
+abbrev pub Spill : ℕ → List ℕ → Meaning → Result (Unit {0}) Fault → Meaning → Type 0
+Spill b ws m (Ok _) n = n ≡ with-block m b (word-of ws)
+Spill b ws m (Err f) n = Falls f m n
+
+-- the same of a line that holds its block whole
+abbrev pub Spilled : View → Meaning → Result (Unit {0}) Fault → Meaning → Type 0
+Spilled v m r n = Whole m v → Spill (v .block) (v .words) m r n
+
+-- the store after a line went down
+abbrev pub emptied : View → Meaning → Meaning
+emptied v m = cond (goes v) (with-block m (v .block) (word-of (v .words))) m
+
+-- the line v has gone down, and is now w, which holds no block
+pub record EmptyDone (v w : View) (m n : Meaning) : Type 0 where
+  pub after : n ≡ emptied v m
+  pub none : w .block ≡ 0
+
+-- the store fell as the line v went down: the line stays
+pub record EmptyFails (f : Fault) (v w : View) (m n : Meaning) : Type 0 where
+  pub down : Falls f m n
+  pub kept : w ≡ v
+
+abbrev pub Empty : View → View → Meaning → Result (Unit {0}) Fault → Meaning → Type 0
+Empty v w m (Ok _) n = EmptyDone v w m n
+Empty v w m (Err f) n = EmptyFails f v w m n
+
+-- a line that holds no block, or holds it whole, was emptied
+abbrev pub Emptied : View → View → Meaning → Result (Unit {0}) Fault → Meaning → Type 0
+Emptied v w m r n = ((v .block ≡ 0 → ⊥) → Whole m v) → Empty v w m r n
+
+-- block b was read into the line w
+pub record FillDone (b : ℕ) (w : View) (m n : Meaning) : Type 0 where
+  pub after : n ≡ m
+  pub block : w .block ≡ b
+  pub altered : w .altered ≡ false
+  pub words : m .words b ≡ word-of (w .words)
+  pub wide : length (w .words) ≡ m .shape .width
+
+-- the store fell as the line w was filled: it holds no block
+pub record FillFails (f : Fault) (w : View) (m n : Meaning) : Type 0 where
+  pub down : Falls f m n
+  pub none : w .block ≡ 0
+
+abbrev pub Fill : ℕ → View → Meaning → Result (Unit {0}) Fault → Meaning → Type 0
+Fill b w m (Ok _) n = FillDone b w m n
+Fill b w m (Err f) n = FillFails f w m n
+
+-- a granted block was read into a line v that held none, and is now w
+abbrev pub Filled : ℕ → View → View → Meaning → Result (Unit {0}) Fault → Meaning → Type 0
+Filled b v w m r n = m .granted b ≡ true → v .block ≡ 0 → Fill b w m r n
