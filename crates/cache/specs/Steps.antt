@@ -73,3 +73,52 @@ Fill b w m (Err f) n = FillFails f w m n
 -- a granted block was read into a line v that held none, and is now w
 abbrev pub Filled : ℕ → View → View → Meaning → Result (Unit {0}) Fault → Meaning → Type 0
 Filled b v w m r n = m .granted b ≡ true → v .block ≡ 0 → Fill b w m r n
+
+-- what work on a cache tells: its relation, and that store and lines are ready for the next
+pub record Worked (P R H : Type 0) : Type 0 where
+  pub call : P
+  pub ready : R
+  pub held : H
+
+-- work on the store s and the table t that leaves s′ and t′: where they were ready and `Pre` held, `Rel` holds of their meanings
+abbrev pub Works : {S : Type 0} → (S → Meaning) → (S → Type 0) → (Meaning → List View → Type 0) → (Meaning → List View → Meaning → List View → Type 0) → S → LineTable → S → LineTable → Type 0
+Works meaning ready Pre Rel s t s′ t′ =
+    ready s
+    → Held (meaning s) (t .lost) (table-views t)
+    → Pre (meaning s) (table-views t)
+    → Worked (Rel (meaning s) (table-views t) (meaning s′) (table-views t′)) (ready s′) (Held (meaning s′) (t′ .lost) (table-views t′))
+
+-- the store below is up
+abbrev pub Up : Meaning → List View → Type 0
+Up m vs = m .down ≡ false
+
+-- line i was made free
+pub record EvictDone (i : ℕ) (m : Meaning) (vs : List View) (n : Meaning) (ws : List View) : Type 0 where
+  pub same : cached ws n ≡ cached vs m
+  pub none : nth ws i .block ≡ 0
+  pub absent : (b : ℕ) → (b ≡ 0 → ⊥) → ((k : ℕ) → nth vs k .block ≡ b → ⊥) → (k : ℕ) → nth ws k .block ≡ b → ⊥
+
+abbrev pub Evicted : Result ℕ Fault → Meaning → List View → Meaning → List View → Type 0
+Evicted (Ok i) m vs n ws = EvictDone i m vs n ws
+Evicted (Err f) m vs n ws = Falls f (cached vs m) (cached ws n)
+
+-- the line that is freed was longest unused
+abbrev pub Oldest : List ℕ → Result ℕ Fault → Type 0
+Oldest ages (Ok i) = (k : ℕ) → k < length ages → getD ages i 0 ≤ getD ages k 0
+Oldest ages (Err f) = Unit {0}
+
+-- block b can be read into line i: it is granted and in no line, and line i is free
+pub record Loadable (b i : ℕ) (m : Meaning) (vs : List View) : Type 0 where
+  pub up : m .down ≡ false
+  pub granted : m .granted b ≡ true
+  pub absent : (k : ℕ) → nth vs k .block ≡ b → ⊥
+  pub none : nth vs i .block ≡ 0
+
+-- block b was read into line i
+pub record LoadDone (b i : ℕ) (m : Meaning) (vs : List View) (n : Meaning) (ws : List View) : Type 0 where
+  pub same : cached ws n ≡ cached vs m
+  pub block : nth ws i .block ≡ b
+
+abbrev pub Loaded : ℕ → ℕ → Result (Unit {0}) Fault → Meaning → List View → Meaning → List View → Type 0
+Loaded b i (Ok _) m vs n ws = LoadDone b i m vs n ws
+Loaded b i (Err f) m vs n ws = Falls f (cached vs m) (cached ws n)
