@@ -5,3 +5,4 @@ pub mod Overs
 pub mod Helds
 pub mod Raises
 pub mod Evicts
+pub mod Fetches

@@ -13,7 +13,7 @@ use Rattle.store.specs.declared.fault.Refusal.the-variants.{Down}
 use Rattle.store.specs.Meaning.{Meaning, Fell, count, with-block}
 use Rattle.store.specs.Calls.{WordFails, Deep}
 use Rattle.cache.specs.declared.line.LineTable.{LineTable}
-use Rattle.cache.specs.Lines.{View, nth, table-views, goes}
+use Rattle.cache.specs.Lines.{View, nth, table-views, goes, Hit}
 use Rattle.cache.specs.Cache.{word-of, cached, flat, Whole, Held}
 
 -- the store fell, and f says so
@@ -122,3 +122,39 @@ pub record LoadDone (b i : ℕ) (m : Meaning) (vs : List View) (n : Meaning) (ws
 abbrev pub Loaded : ℕ → ℕ → Result (Unit {0}) Fault → Meaning → List View → Meaning → List View → Type 0
 Loaded b i (Ok _) m vs n ws = LoadDone b i m vs n ws
 Loaded b i (Err f) m vs n ws = Falls f (cached vs m) (cached ws n)
+
+-- block b can be brought up: it is granted and in no line
+pub record Missing (b : ℕ) (m : Meaning) (vs : List View) : Type 0 where
+  pub up : m .down ≡ false
+  pub granted : m .granted b ≡ true
+  pub absent : (k : ℕ) → nth vs k .block ≡ b → ⊥
+
+-- block b was brought up into some line
+abbrev pub Brought : ℕ → Result ℕ Fault → Meaning → List View → Meaning → List View → Type 0
+Brought b (Ok i) m vs n ws = LoadDone b i m vs n ws
+Brought b (Err f) m vs n ws = Falls f (cached vs m) (cached ws n)
+
+-- line i has the word at a place of block b
+pub record FetchDone (b place i : ℕ) (m : Meaning) (vs : List View) (n : Meaning) (ws : List View) : Type 0 where
+  pub up : m .down ≡ false
+  pub same : cached ws n ≡ cached vs m
+  pub some : b ≡ 0 → ⊥
+  pub block : nth ws i .block ≡ b
+  pub within : place < length (nth ws i .words)
+
+-- there is no such word, or the store fell
+pub record FetchFails (b place : ℕ) (f : Fault) (m : Meaning) (vs : List View) (n : Meaning) (ws : List View) : Type 0 where
+  pub call : WordFails b place (f .refusal) (f .block) (cached vs m) (cached ws n)
+  pub deep : f .depth ≡ cached vs m .shape .depth (f .refusal) (count m)
+
+abbrev pub Fetched : ℕ → ℕ → Result ℕ Fault → Meaning → List View → Meaning → List View → Type 0
+Fetched b place (Ok i) m vs n ws = FetchDone b place i m vs n ws
+Fetched b place (Err f) m vs n ws = FetchFails b place f m vs n ws
+
+-- nothing more is needed
+abbrev pub Any : Meaning → List View → Type 0
+Any m vs = Unit {0}
+
+-- some line of a table has the word at a place of block b
+abbrev pub Has : LineTable → ℕ → ℕ → Type 0
+Has t b place = (i : ℕ) × Hit (t .lost) (table-views t) b place i
