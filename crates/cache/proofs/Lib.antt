@@ -6,3 +6,5 @@ pub mod Helds
 pub mod Raises
 pub mod Evicts
 pub mod Fetches
+pub mod Services
+pub mod Closings

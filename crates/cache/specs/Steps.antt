@@ -11,7 +11,8 @@ use Rattle.std.specs.declared.result.Result.the-variants.{Ok, Err}
 use Rattle.store.specs.declared.fault.Fault.{Fault}
 use Rattle.store.specs.declared.fault.Refusal.the-variants.{Down}
 use Rattle.store.specs.Meaning.{Meaning, Fell, count, with-block}
-use Rattle.store.specs.Calls.{WordFails, Deep}
+use Rattle.store.specs.Faults.{one-deeper}
+use Rattle.store.specs.Calls.{WordFails, Deep, Told}
 use Rattle.cache.specs.declared.line.LineTable.{LineTable}
 use Rattle.cache.specs.Lines.{View, nth, table-views, goes, Hit}
 use Rattle.cache.specs.Cache.{word-of, cached, flat, Whole, Held}
@@ -158,3 +159,33 @@ Any m vs = Unit {0}
 -- some line of a table has the word at a place of block b
 abbrev pub Has : LineTable → ℕ → ℕ → Type 0
 Has t b place = (i : ℕ) × Hit (t .lost) (table-views t) b place i
+
+-- a new cache over m, whose lines hold nothing
+pub record Opened (m : Meaning) (t : LineTable) : Type 0 where
+  pub held : Held m (t .lost) (table-views t)
+  pub same : flat (table-views t) m ≡ m
+
+-- a store call on a cache with the table t over s, which answers r and leaves s′ and t′
+abbrev pub Serves : {S A : Type 0} → (S → Meaning) → (S → Type 0) → (Meaning → Result A Fault → Meaning → Type 0) → S → LineTable → Result A Fault → S → LineTable → Type 0
+Serves meaning ready Rel s t r s′ t′ =
+    ready s × Held (meaning s) (t .lost) (table-views t)
+    → Told
+    (Rel (cached (table-views t) (meaning s)) r (cached (table-views t′) (meaning s′)))
+    (Deep (cached (table-views t) (meaning s)) r)
+    (ready s′ × Held (meaning s′) (t′ .lost) (table-views t′))
+
+-- a store that a cache lost says so again; one that it did not lose is left alone
+abbrev pub Heard : Bool → Meaning → Result (Unit {0}) Fault → Meaning → Type 0
+Heard lost m (Ok _) n = (n ≡ m) × (lost ≡ true → m .down ≡ false)
+Heard lost m (Err f) n = Falls f m n
+
+-- closing met the fault f: the store below m is down
+pub record CloseFails (f : Fault) (m n : Meaning) : Type 0 where
+  pub refusal : f .refusal ≡ Down
+  pub deep : f .depth ≡ one-deeper (m .shape .depth (f .refusal) (count m))
+  pub fell : Fell m n
+
+-- closing a cache with the lines vs over m leaves n: where no fault was met, n has every word of the cache
+abbrev pub Closes : List View → Meaning → Option Fault → Meaning → Type 0
+Closes vs m None n = n ≡ flat vs m
+Closes vs m (Some f) n = CloseFails f m n

@@ -1,7 +1,7 @@
 // Lines that go down to a store and come up from it.
 ghost use Rattle.store.specs.Calls.{Leaves};
 ghost use Rattle.cache.specs.Lines.{view};
-ghost use Rattle.cache.specs.Steps.{Spilled, Emptied, Filled};
+ghost use Rattle.cache.specs.Steps.{Spilled, Emptied, Filled, Heard};
 use crate::line::Line;
 use store::blocks::Store;
 use store::fault::Fault;
@@ -44,5 +44,15 @@ pub(crate) fn fill<S: Store>(store: &mut S, block: u32, line: &mut Line) -> Resu
     }
     line.changed = false;
     line.block = block;
+    Ok(())
+}
+
+// Asks a store that was lost again. A store that was not lost is left alone.
+pub(crate) fn heard<S: Store>(store: &mut S, lost: bool) -> Result<(), Fault>
+    ensures { λ r. ⌜ Leaves meaning ready (Heard lost) (now (store .entry)) r (now (store .exit)) ⌝ }
+{
+    if lost {
+        store.stock()?;
+    }
     Ok(())
 }
