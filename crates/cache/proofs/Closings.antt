@@ -37,9 +37,11 @@ pub record Closing (vs : List View) (m : Meaning) (lost : Bool) (i : ℕ) (ws : 
   pub same : flat ws n ≡ flat vs m
   pub clear : (k : ℕ) → k < i → nth ws k .block ≡ 0
 
-pub closing-none : {vs : List View} {m : Meaning} {lost : Bool} → Held m lost vs → Closing vs m lost 0 vs m
-closing-none h = record { held = h; same = refl; clear = λ k l. absurd (omega arith) }
+-- no line yet
+pub closing-none : {vs : List View} {m : Meaning} {lost : Bool} (i : ℕ) → i ≤ 0 → Held m lost vs → Closing vs m lost i vs m
+closing-none i z h = record { held = h; same = refl; clear = λ k l. absurd (omega arith) }
 
+-- one line more
 pub closing-more : {vs ws : List View} {m n k : Meaning} {lost : Bool} {i : ℕ} (w : View) → n .granted 0 ≡ false → lost ≡ false → i < length ws → EmptyDone (nth ws i) w n k → Closing vs m lost i ws n → Closing vs m lost (i + 1) (set ws i w) k
 closing-more {vs} {ws} {m} {n} {k} {lost} {i} w g0 up l d c =
     let q = freed n lost ws i w l (d .none) (c .held) g0 up k (d .after) in
@@ -51,6 +53,7 @@ closing-more {vs} {ws} {m} {n} {k} {lost} {i} w g0 up l d c =
           (ap (λ v. v .block) (nth-same ws i w l) ∙ d .none);
     }
 
+-- every line
 pub closing-all : {vs ws : List View} {m n : Meaning} {lost : Bool} {i : ℕ} → n .granted 0 ≡ false → length ws ≤ i → Closing vs m lost i ws n → n ≡ flat vs m
 closing-all {ws = ws} {n = n} {i = i} g0 l c =
     let all : Clear ws = λ k. ⊎-elim (c .clear k) (λ q. ap (λ v. v .block) (getD-past ws k blank (omega arith))) (cases-lt k i) in
@@ -72,10 +75,6 @@ closing-exit {vs} {ws} {m} {n} {k} {f = f} q c = record {
 -- a cache over the same store
 pub fails-of : {l m n : Meaning} {f : Fault} → l ≡ m → CloseFails f l n → CloseFails f m n
 fails-of {n = n} {f} e q = subst (λ x. CloseFails f x n) e q
-
--- the store had fallen before
-pub close-lost : {m n : Meaning} {f : Fault} → Falls f m n → CloseFails (deeper f) m n
-close-lost q = record { refusal = q .refusal; deep = ap one-deeper (q .deep); fell = q .fell }
 
 -- a store that is asked whether it is down, and is not, was not lost
 pub heard-up : {m : Meaning} {lost : Bool} {vs : List View} → Held m lost vs → (lost ≡ true → m .down ≡ false) → lost ≡ false

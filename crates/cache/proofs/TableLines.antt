@@ -44,3 +44,11 @@ clear-push [] l z c zero = z
 clear-push [] l z c (suc k) = refl
 clear-push (x ∷ xs) l z c zero = c 0
 clear-push (x ∷ xs) l z c (suc k) = clear-push xs l z (λ j. c (suc j)) k
+
+-- a line's block, in a table with the same lines
+pub block-at : {us vs : List View} {a b : ℕ} (i : ℕ) → us ≡ vs → nth us i .block ≡ a → a ≡ b → nth vs i .block ≡ b
+block-at i e q r = ap (λ ws. nth ws i .block) (sym e) ∙ q ∙ r
+
+-- a line's word, in a table with the same lines
+pub word-at : {us vs : List View} {v : ℕ} (i j place : ℕ) → us ≡ vs → v ≡ getD (nth us j .words) place 0 → j ≡ i → v ≡ getD (nth vs i .words) place 0
+word-at {us} {vs} i j place e q r = q ∙ ap (λ ws. getD (nth ws j .words) place 0) e ∙ ap (λ k. getD (nth vs k .words) place 0) r

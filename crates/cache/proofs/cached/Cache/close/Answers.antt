@@ -12,7 +12,7 @@ use Rattle.cache.proofs.Closings.{closing-none, closing-more, closing-all, clo
 use Rattle.cache.proofs.cached.Cache.close.Needs as need
 
 pub loop-i-holds : need.loop-i-holds
-loop-i-holds g c = (refl, refl, λ r h up. (r, closing-none h))
+loop-i-holds g c = (refl, refl, λ r h up. (r, closing-none _ (omega arith) h))
 
 pub loop-i-again : need.loop-i-again
 loop-i-again g c =

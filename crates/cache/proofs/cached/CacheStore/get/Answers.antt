@@ -5,6 +5,7 @@ use Rattle.store.specs.Calls.{GetDone}
 use Rattle.cache.specs.Lines.{nth, table-views}
 use Rattle.cache.specs.Cache.{cached, Held}
 use Rattle.cache.proofs.Exits.{at-exit}
+use Rattle.cache.proofs.TableLines.{word-at}
 use Rattle.cache.proofs.Services.{got}
 use Rattle.cache.proofs.cached.CacheStore.get.Needs as need
 
@@ -28,12 +29,13 @@ returns g c =
     let n = g .S·Store .meaning (c .fetch .last .self .store) in
     let vs = table-views (s .table) in
     let ws = table-views (c .fetch .last .self .table) in
-    let ue = c .touch .ensures .views in
+    let ue : table-views (c .touch .last .self) ≡ ws = c .touch .ensures .views in
+    let value : c .read .result ≡ getD (nth ws i .words) (c .args .place) 0 = word-at i _ _ ue (c .read .ensures) (omega arith) in
     record {
       keeps = λ r.
           let e = c .in-Continue-i .ensures tt .works (r .0) (r .1) tt in
           let law = g .S·Store .sound (c .fetch .last .self .store) (e .ready) in
-          let d = got (law .none-at-zero) (e .call) (e .held) (c .read .result) (c .read .ensures ∙ ap (λ us. getD (nth us i .words) (c .args .place) 0) ue) in
+          let d = got (law .none-at-zero) (e .call) (e .held) (c .read .result) value in
           record {
             call = subst (λ us. GetDone (cached vs m) (c .args .block) (c .args .place) (c .read .result) (cached us n)) (sym ue) d;
             deep = tt;

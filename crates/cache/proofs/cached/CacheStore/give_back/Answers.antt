@@ -7,6 +7,7 @@ use Rattle.store.specs.Calls.{GiveFails, GiveDone}
 use Rattle.cache.specs.Lines.{view, views, nth, table-views, free-view}
 use Rattle.cache.specs.Cache.{cached, Held}
 use Rattle.cache.proofs.Exits.{at-exit}
+use Rattle.cache.proofs.TableLines.{block-at}
 use Rattle.cache.proofs.Services.{give-err, gave, gave-line}
 use Rattle.cache.proofs.cached.CacheStore.give_back.Needs as need
 
@@ -45,13 +46,15 @@ returns-in-Some g c =
     let vs = table-views (s .table) in
     let i = c .in-Some .i in
     let ve : table-views (c .note .last .self) ≡ vs = ap (λ l. views (l .items)) (c .note .ensures .lines) in
-    let found = subst (λ us. (i < length us) × (nth us i .block ≡ b)) ve (c .in-Some .ensures tt) in
+    let hit = c .in-Some .ensures tt in
+    let l : i < length vs = omega (arith, hit .0, ap length ve) in
+    let at-b : nth vs i .block ≡ b = block-at i ve (hit .1) (omega arith) in
     let ue = c .free .ensures .views ∙ ap (λ us. set us i (free-view (nth us i))) ve in
     record {
       keeps = λ r.
           let law = g .S·Store .sound (s .store) (r .0) in
           let e = c .give-back-r .ensures .keeps (r .0) in
-          let all = gave-line (law .none-at-zero) (r .1) i (free-view (nth vs i)) (found .0) refl b (c .give-back-r .result) (c .in-Continue-note .ensures tt .answer) (e .call) (c .note .ensures .lost) (found .1) in
+          let all = gave-line (law .none-at-zero) (r .1) i (free-view (nth vs i)) l refl b (c .give-back-r .result) (c .in-Continue-note .ensures tt .answer) (e .call) (c .note .ensures .lost) at-b in
           record {
             call = subst (λ us. GiveDone (cached vs m) b (cached us n)) (sym ue) (all .0);
             deep = tt;

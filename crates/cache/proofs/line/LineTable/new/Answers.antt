@@ -19,7 +19,7 @@ loop-again c =
     (e .len ∙ ap (λ k. k + 1) (c .loop .inv .0), subst (λ l. Clear (views l)) (sym (e .items)) (clear-push _ _ refl (c .loop .inv .1)), omega (arith, e .capacity, c .loop .inv .2))
 
 pub ghost-result : need.ghost-result
-ghost-result c = (omega (arith, c .loop .inv .0, c .if-lines-eq0 .left), (omega (arith, c .loop .inv .0, c .if-lines-gt16 .left), tt))
+ghost-result c = (omega (arith, c .loop .inv .0), (omega (arith, c .loop .inv .0), tt))
 
 pub returns : need.returns
 returns c = record { lines = omega (arith, c .loop .inv .0); unused = record { clear = c .loop .inv .1; up = refl } }
