@@ -1,7 +1,7 @@
 -- A cache that is closed, line by line.
 use mathlib.Core.Path.{_≡_, refl, sym, ap, _∙_, subst}
 use mathlib.Core.Bool.{Bool, true, false}
-use mathlib.Core.List.{List, [], _∷_}
+use mathlib.Core.List.{List}
 use mathlib.Core.Logic.{⊎-elim}
 use Prim.Native.Nat.{ℕ, _+_, _<_, _≤_}
 use native.Mathlib.Omega.{arith}
@@ -11,25 +11,14 @@ use Rattle.std.proofs.shelf.Lists.{getD-past, getD-set-other}
 use Rattle.std.proofs.shelf.Tests.{cases-lt, cases-bool, both-ways}
 use Rattle.store.specs.declared.fault.Fault.{Fault}
 use Rattle.store.specs.Faults.{one-deeper, deeper}
-use Rattle.store.specs.Meaning.{Shape, Meaning, count}
+use Rattle.store.specs.Meaning.{Meaning, count}
+use Rattle.store.specs.Laws.Layers.{inner}
 use Rattle.cache.specs.Lines.{View, nth, blank, Clear}
-use Rattle.cache.specs.Cache.{cached, flat, Held}
+use Rattle.cache.specs.Cache.{flat, Held}
 use Rattle.cache.specs.Steps.{Falls, EmptyDone, CloseFails}
 use Rattle.cache.proofs.Overs.{nth-same}
 use Rattle.cache.proofs.Evicts.{freed}
 use Rattle.cache.proofs.Services.{clear-over}
-
-abbrev first-of : List Shape → Shape → Shape
-first-of [] d = d
-first-of (s ∷ ss) d = s
-
-abbrev rest-of : List Shape → List Shape
-rest-of [] = []
-rest-of (s ∷ ss) = ss
-
--- the store under a cache, once every line is written
-abbrev uncached : Meaning → Meaning
-uncached k = record { shape = first-of (k .below) (k .shape); below = rest-of (k .below); granted = k .granted; words = k .words; down = k .down }
 
 -- the lines below i have gone down
 pub record Closing (vs : List View) (m : Meaning) (lost : Bool) (i : ℕ) (ws : List View) (n : Meaning) : Type 0 where
@@ -47,7 +36,7 @@ closing-more {vs} {ws} {m} {n} {k} {lost} {i} w g0 up l d c =
     let q = freed n lost ws i w l (d .none) (c .held) g0 up k (d .after) in
     record {
       held = q .1;
-      same = ap uncached (q .0) ∙ c .same;
+      same = ap inner (q .0) ∙ c .same;
       clear = below-more (λ j. nth (set ws i w) j .block ≡ 0) i
           (λ j h. ap (λ v. v .block) (getD-set-other ws i j w blank (omega arith)) ∙ c .clear j h)
           (ap (λ v. v .block) (nth-same ws i w l) ∙ d .none);

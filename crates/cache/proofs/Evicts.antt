@@ -1,7 +1,7 @@
 -- A line that is freed, and a line that is filled.
 use mathlib.Core.Path.{_≡_, refl, sym, ap, _∙_, subst}
-use mathlib.Core.Bool.{Bool, true, false, cond}
-use mathlib.Core.List.{List, _∷_}
+use mathlib.Core.Bool.{Bool, false}
+use mathlib.Core.List.{List}
 use mathlib.Core.Logic.{⊎-elim}
 use Prim.Native.Nat.{ℕ, _<_}
 use native.Mathlib.Omega.{arith}
@@ -13,13 +13,13 @@ use Rattle.std.proofs.shelf.Tests.{cases-eq}
 use Rattle.store.specs.declared.fault.Fault.{Fault}
 use Rattle.store.specs.Faults.{deeper}
 use Rattle.store.specs.Layers.{raised}
-use Rattle.store.specs.Meaning.{Meaning, with-at, with-blocks, with-block}
+use Rattle.store.specs.Meaning.{Meaning, with-blocks, with-block}
 use Rattle.store.specs.Laws.Changes.{with-at-same}
 use Rattle.cache.specs.Lines.{View, nth, blank, Noted}
 use Rattle.cache.specs.Cache.{word-of, over, cached, Whole, Fits, Held}
-use Rattle.cache.specs.Steps.{Falls, emptied, Empty, Emptied, Fill, Evicted, EvictDone, Loadable, Loaded, LoadDone}
-use Rattle.cache.specs.Laws.Overlays.{not-zero, over-hit}
-use Rattle.cache.proofs.Overs.{Absent, nth-same, absent-set, over-idle, over-out, over-in}
+use Rattle.cache.specs.Steps.{Falls, emptied, Empty, Fill, EvictDone, Loadable, Loaded, LoadDone}
+use Rattle.cache.specs.Laws.Overlays.{over-hit}
+use Rattle.cache.proofs.Overs.{nth-same, absent-set, over-idle, over-out, over-in}
 use Rattle.cache.proofs.Helds.{held-set, held-out, emptied-none, emptied-full, not-lost}
 use Rattle.cache.proofs.Raises.{falls-cached, held-falls, held-same}
 

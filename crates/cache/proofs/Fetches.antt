@@ -1,10 +1,9 @@
 -- A word looked up in the lines, or brought up from below.
 use mathlib.Core.Path.{_≡_, refl, sym, ap, _∙_, subst}
-use mathlib.Core.Bool.{Bool, true, false}
+use mathlib.Core.Bool.{Bool, false}
 use mathlib.Core.List.{List}
-use Prim.Native.Nat.{ℕ, _<_, _≤_}
+use Prim.Native.Nat.{ℕ, _<_}
 use native.Mathlib.Omega.{arith}
-use lib.ListN.{length}
 use Rattle.std.specs.declared.option.Option.the-variants.{None}
 use Rattle.std.specs.declared.result.Result.{Result}
 use Rattle.std.specs.declared.result.Result.the-variants.{Ok, Err}
@@ -14,9 +13,9 @@ use Rattle.store.specs.Layers.{raised}
 use Rattle.store.specs.Meaning.{Meaning}
 use Rattle.store.specs.Calls.{Get, Deep}
 use Rattle.store.specs.Calls.WordFails.{word-down}
-use Rattle.cache.specs.Lines.{View, nth, Hit, Hits, Noted}
+use Rattle.cache.specs.Lines.{View, Hit, Hits, Noted}
 use Rattle.cache.specs.Cache.{cached, Held}
-use Rattle.cache.specs.Steps.{Falls, EvictDone, Loadable, Missing, Brought, Loaded, LoadDone, Fetched, FetchDone, FetchFails}
+use Rattle.cache.specs.Steps.{Falls, EvictDone, Loadable, Missing, Brought, LoadDone, Fetched, FetchDone, FetchFails}
 use Rattle.cache.specs.Laws.Overlays.{not-zero}
 use Rattle.cache.proofs.Raises.{word-cached, held-word, held-same}
 use Rattle.cache.proofs.Helds.{not-lost}

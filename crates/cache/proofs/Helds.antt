@@ -1,17 +1,16 @@
 -- What lines keep as they and the store below change.
 use mathlib.Core.Path.{_≡_, refl, sym, ap, _∙_, subst}
-use mathlib.Core.Bool.{Bool, true, false, cond, not, _&&_}
+use mathlib.Core.Bool.{Bool, true, false, not}
 use mathlib.Core.List.{List}
 use mathlib.Core.Logic.{⊎-elim}
 use Prim.Native.Nat.{ℕ, _<_}
-use native.Mathlib.Omega.{arith}
 use lib.Dec.{eqb}
 use lib.ListN.{length, set}
-use Rattle.std.proofs.shelf.Tests.{eq-eqb, ne-eqb, cond-true, cond-false, and-from, and-left, and-right, cases-eq, cases-bool, both-ways}
+use Rattle.std.proofs.shelf.Tests.{eq-eqb, ne-eqb, cond-true, cond-false, and-from, and-left, and-right, cases-bool, both-ways}
 use Rattle.store.specs.Meaning.{Meaning, Fell, with-at, with-blocks, with-block}
 use Rattle.store.specs.Laws.Changes.{with-at-other, block-same}
-use Rattle.cache.specs.Lines.{View, nth, Clear, goes}
-use Rattle.cache.specs.Cache.{word-of, over, cached, Apart, Whole, Fits, Held}
+use Rattle.cache.specs.Lines.{View, nth, Clear}
+use Rattle.cache.specs.Cache.{word-of, Fits, Held}
 use Rattle.cache.specs.Steps.{emptied}
 use Rattle.cache.proofs.Overs.{Absent, at-set, sub-blank, apart-set, apart-blank}
 

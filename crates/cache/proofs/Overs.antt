@@ -8,12 +8,12 @@ use native.Mathlib.Omega.{arith}
 use lib.Dec.{eqb}
 use lib.ListN.{length, set}
 use Rattle.std.proofs.shelf.Lists.{getD-set-same, getD-set-other}
-use Rattle.std.proofs.shelf.Tests.{ne-eqb, cond-false, and-left, and-right, cases-eq, cases-bool, both-ways}
+use Rattle.std.proofs.shelf.Tests.{ne-eqb, cond-false, and-left, and-right, cases-eq, cases-bool}
 use Rattle.store.specs.Meaning.{with-at}
 use Rattle.store.specs.Laws.Changes.{with-at-here, with-at-other, with-at-from}
 use Rattle.cache.specs.Lines.{View, nth, blank}
 use Rattle.cache.specs.Cache.{word-of, over, Apart}
-use Rattle.cache.specs.Laws.Overlays.{not-zero, over-miss, over-none, over-hit}
+use Rattle.cache.specs.Laws.Overlays.{not-zero, over-miss, over-hit}
 
 -- no line holds block b
 abbrev pub Absent : List View → ℕ → Type 0

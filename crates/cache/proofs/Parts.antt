@@ -1,5 +1,5 @@
 -- A block written word by word, and read word by word.
-use mathlib.Core.Path.{_≡_, refl, sym, ap, _∙_, fun-ext}
+use mathlib.Core.Path.{_≡_, sym, ap, _∙_, fun-ext}
 use mathlib.Core.Bool.{true, cond}
 use mathlib.Core.List.{List, [], _∷_, _++_}
 use mathlib.Core.Logic.{⊎-elim}
@@ -9,11 +9,10 @@ use borrow.Author.Count.{below-more}
 use lib.Dec.{ltb}
 use lib.ListN.{length, getD}
 use Rattle.std.proofs.shelf.Lists.{getD-past, getD-append-left, getD-push}
-use Rattle.std.proofs.shelf.Tests.{cases-lt, cases-eq, lt-ltb, le-ltb, cond-true, cond-false}
+use Rattle.std.proofs.shelf.Tests.{cases-lt, lt-ltb, le-ltb, cond-true, cond-false}
 use Rattle.store.specs.declared.fault.Fault.{Fault}
 use Rattle.store.specs.Meaning.{Meaning, Sound, count, with-at, with-block, written}
-use Rattle.store.specs.Calls.{SetDone, WordFails, StockFails, GetDone}
-use Rattle.store.specs.Calls.StockFails.{stock-down}
+use Rattle.store.specs.Calls.{SetDone, WordFails}
 use Rattle.store.specs.Laws.Changes.{with-at-from, block-same, block-written}
 use Rattle.cache.specs.Cache.{word-of}
 use Rattle.cache.specs.Steps.{Falls}
@@ -78,9 +77,6 @@ pub get-exit : (m : Meaning) {k n : Meaning} {f : Fault} {b i : ℕ} → m .gran
 get-exit m {f = f} g l e w d =
     let q = word-falls {m = m} g l (rw e at w) in
     record { refusal = q .0; fell = q .1; deep = d ∙ ap (λ x. x .shape .depth (f .refusal) (count x)) e }
-
-pub stock-exit : {m n : Meaning} {f : Fault} → StockFails (f .refusal) m n → f .depth ≡ m .shape .depth (f .refusal) (count m) → Falls f m n
-stock-exit (stock-down e l) d = record { refusal = e; fell = l; deep = d }
 
 -- xs is the first i words of β
 abbrev pub Fronts : ℕ → List ℕ → (ℕ → ℕ) → Type 0

@@ -2,7 +2,7 @@
 use mathlib.Core.Path.{_≡_, refl, sym, ap, _∙_, subst, fun-ext}
 use mathlib.Core.Bool.{Bool, true, false}
 use mathlib.Core.List.{List}
-use Prim.Native.Nat.{ℕ, _<_, _≤_}
+use Prim.Native.Nat.{ℕ, _<_}
 use native.Mathlib.Omega.{arith}
 use lib.ListN.{length, set, getD}
 use Rattle.std.specs.declared.result.Result.{Result}
@@ -13,11 +13,11 @@ use Rattle.store.specs.declared.blocks.Stock.{Stock}
 use Rattle.store.specs.declared.fault.Fault.{Fault}
 use Rattle.store.specs.Faults.{one-deeper, deeper}
 use Rattle.store.specs.Layers.{raised}
-use Rattle.store.specs.Meaning.{Meaning, count, with-at, with-blocks, with-block, taken, returned, written}
+use Rattle.store.specs.Meaning.{Meaning, count, with-at, with-blocks, with-block, taken, written}
 use Rattle.store.specs.Calls.{Take, TakeDone, Give, GiveDone, GiveFails, GetDone, SetDone, Stocked, Deep}
 use Rattle.store.specs.Laws.Changes.{with-at-other, with-at-from}
 use Rattle.cache.specs.Lines.{View, nth, set-view, Noted, Clear}
-use Rattle.cache.specs.Cache.{word-of, over, cached, flat, Apart, Fits, Held}
+use Rattle.cache.specs.Cache.{word-of, over, cached, flat, Fits, Held}
 use Rattle.cache.specs.Steps.{FetchDone}
 use Rattle.cache.specs.Laws.Overlays.{not-zero, over-miss, over-hit}
 use Rattle.cache.proofs.Overs.{Absent, within, apart-set, over-put, over-out, over-write}
@@ -45,13 +45,9 @@ module _ (m : Meaning) {lost : Bool} (vs : List View) (b : ℕ) (t : Bool) (β :
   put-held : Held (with-blocks m (with-at (m .granted) b t) (with-at (m .words) b β)) lost vs
   put-held = held-put (with-at (m .granted) b t) b β (with-at-other (m .granted) b t) a h
 
--- what a call leaves: the call's relation, how deep a fault arose, and the lines
-abbrev pub Left : Type 0 → Type 0 → Type 0 → Type 0
-Left P Q R = P × Q × R
-
 module _ {m n : Meaning} {lost lost′ : Bool} {vs : List View} (g0 : m .granted 0 ≡ false) (h : Held m lost vs) where
   -- a block was taken, or not
-  pub took : (q r : Result ℕ Fault) → q ≡ raised r → Take m r n → Deep m r → Noted lost r lost′ → Left (Take (cached vs m) q (cached vs n)) (Deep (cached vs m) q) (Held n lost′ vs)
+  pub took : (q r : Result ℕ Fault) → q ≡ raised r → Take m r n → Deep m r → Noted lost r lost′ → Take (cached vs m) q (cached vs n) × Deep (cached vs m) q × Held n lost′ vs
   took q (Ok b) e c d t =
       let b0 : b ≡ 0 → ⊥ = λ z. let l = c .low in omega arith in
       let a = free-absent b h b0 (c .was-free) in
@@ -67,18 +63,18 @@ module _ {m n : Meaning} {lost lost′ : Bool} {vs : List View} (g0 : m .granted
   took q (Err f) e c d t = rw e (take-cached vs c, ap one-deeper d, held-take f t h c)
 
   -- the stock was told, or not
-  pub stocked : (q r : Result Stock Fault) → q ≡ raised r → Stocked m r n → Deep m r → Noted lost r lost′ → Left (Stocked (cached vs m) q (cached vs n)) (Deep (cached vs m) q) (Held n lost′ vs)
+  pub stocked : (q r : Result Stock Fault) → q ≡ raised r → Stocked m r n → Deep m r → Noted lost r lost′ → Stocked (cached vs m) q (cached vs n) × Deep (cached vs m) q × Held n lost′ vs
   stocked q (Ok s) e c d t =
       rw e (record { was-up = c .was-up; width = c .width; granted = c .granted; capacity = c .capacity; same = ap (cached vs) (c .same) }, tt, held-same t (c .same) h)
   stocked q (Err f) e c d t = rw e (stock-cached vs c, ap one-deeper d, held-stock f t h c)
 
   -- a block was not given back
   pub give-err : {x : Fault} (b : ℕ) (r : Result (Unit {0}) Fault) → Err x ≡ raised r → Give b m r n → Deep m r → Noted lost r lost′
-      → Left (GiveFails b (x .refusal) (x .block) (cached vs m) (cached vs n)) (x .depth ≡ cached vs m .shape .depth (x .refusal) (count m)) (Held n lost′ vs)
+      → GiveFails b (x .refusal) (x .block) (cached vs m) (cached vs n) × (x .depth ≡ cached vs m .shape .depth (x .refusal) (count m)) × Held n lost′ vs
   give-err b (Ok y) e c d t = let q : _≡_ {A = ℕ} 0 1 = cc in absurd (omega arith)
   give-err {x} b (Err f) e c d t =
       let q : deeper f ≡ x = cc in
-      subst (λ y. Left (GiveFails b (y .refusal) (y .block) (cached vs m) (cached vs n)) (y .depth ≡ cached vs m .shape .depth (y .refusal) (count m)) (Held n lost′ vs)) q
+      subst (λ y. GiveFails b (y .refusal) (y .block) (cached vs m) (cached vs n) × (y .depth ≡ cached vs m .shape .depth (y .refusal) (count m)) × Held n lost′ vs) q
       (give-cached vs c, ap one-deeper d, held-give f t h c)
 
   -- a block was given back, and no line had it
@@ -142,9 +138,6 @@ module _ {m n : Meaning} {lost : Bool} {vs ws : List View} {b place i : ℕ} (g0
 
   -- a word set in a line
   module _ (word : ℕ) where
-    new : View
-    new = set-view (nth ws i) place word
-
     words-set : word-of (set (nth ws i .words) place word) ≡ with-at (word-of (nth ws i .words)) place word
     words-set =
         with-at-from (word-of (nth ws i .words)) place (word-of (set (nth ws i .words) place word)) word

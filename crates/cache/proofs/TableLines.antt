@@ -1,15 +1,14 @@
 -- A table's lines as they are read and set.
 use mathlib.Core.Path.{_≡_, refl, sym, ap, _∙_}
-use mathlib.Core.Bool.{Bool, true, false}
 use mathlib.Core.List.{List, [], _∷_, _++_, map}
 use mathlib.Core.Logic.{⊎-elim}
-use Prim.Native.Nat.{ℕ, zero, suc, _+_, _<_, _≤_}
+use Prim.Native.Nat.{ℕ, zero, suc, _<_, _≤_}
 use native.Mathlib.Omega.{arith}
 use native.Mathlib.Bridge.{le-prop}
 use lib.ListN.{length, set, getD}
-use Rattle.std.specs.Of.Vec.{vec-items, vec-len}
-use Rattle.std.proofs.shelf.Lists.{getD-map, map-set, set-getD, getD-past, length-map}
-use Rattle.std.proofs.shelf.Tests.{cases-eq, cases-lt}
+use Rattle.std.specs.Of.Vec.{vec-len}
+use Rattle.std.proofs.shelf.Lists.{getD-map, map-set, set-getD, getD-past, length-map, getD-set-same}
+use Rattle.std.proofs.shelf.Tests.{cases-lt}
 use Rattle.cache.specs.declared.line.Line.{Line}
 use Rattle.cache.specs.declared.line.LineTable.{LineTable}
 use Rattle.cache.specs.Lines.{View, view, views, nth, blank, Clear}
@@ -29,8 +28,13 @@ views-set ls i w = map-set view ls i w
 pub views-kept : (ls : List Line) (i : ℕ) (l w : Line) → i < length ls → l ≡ getD ls i l → view w ≡ view l → views (set ls i w) ≡ views ls
 views-kept ls i l w h e q = views-set ls i w ∙ ap (set (views ls) i) (q ∙ sym (view-at ls i l h e)) ∙ set-getD (views ls) i blank
 
-pub ages-set : (ls : List Line) (i : ℕ) (w : Line) → map (λ x. x .used) (set ls i w) ≡ set (map (λ x. x .used) ls) i (w .used)
-ages-set ls i w = map-set (λ x. x .used) ls i w
+pub ages-kept : (ls : List Line) (i : ℕ) (l w : Line) → i < length ls → l ≡ getD ls i l → w .used ≡ l .used → map (λ x. x .used) (set ls i w) ≡ map (λ x. x .used) ls
+ages-kept ls i l w h e q =
+    map-set (λ x. x .used) ls i w ∙ ap (set (map (λ x. x .used) ls) i) (q ∙ sym (used-at ls i l h e)) ∙ set-getD (map (λ x. x .used) ls) i 0
+
+-- line i has the age that it was given
+pub age-at : {us : List ℕ} (vs : List ℕ) (i v : ℕ) → i < length vs → us ≡ set vs i v → getD us i 0 ≡ v
+age-at vs i v h e = ap (λ l. getD l i 0) e ∙ getD-set-same vs i v 0 h
 
 pub none-past : (ls : List Line) (k : ℕ) → length ls ≤ k → nth (views ls) k ≡ blank
 none-past ls k h = getD-past (views ls) k blank (let e = length-map ls view in omega arith)

@@ -24,9 +24,11 @@ pub record View : Type 0 where
   pub altered : Bool
   pub words : List ℕ
 
+-- what a line holds
 abbrev pub view : Line → View
 view l = record { block = l .block; altered = l .changed; words = vec-items (l .words) }
 
+-- a line that holds nothing
 abbrev pub blank : View
 blank = record { block = 0; altered = false; words = [] }
 
@@ -34,10 +36,11 @@ blank = record { block = 0; altered = false; words = [] }
 abbrev pub nth : List View → ℕ → View
 nth vs i = getD vs i blank
 
--- the lines of a table
+-- what each of some lines holds
 abbrev pub views : List Line → List View
 views ls = map view ls
 
+-- what each line of a table holds
 abbrev pub table-views : LineTable → List View
 table-views t = views (vec-items (t .lines))
 

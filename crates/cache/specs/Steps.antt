@@ -14,7 +14,7 @@ use Rattle.store.specs.Meaning.{Meaning, Fell, count, with-block}
 use Rattle.store.specs.Faults.{one-deeper}
 use Rattle.store.specs.Calls.{WordFails, Deep, Told}
 use Rattle.cache.specs.declared.line.LineTable.{LineTable}
-use Rattle.cache.specs.Lines.{View, nth, table-views, goes, Hit}
+use Rattle.cache.specs.Lines.{View, nth, table-views, ages, goes, Hit}
 use Rattle.cache.specs.Cache.{word-of, cached, flat, Whole, Held}
 
 -- the store fell, and f says so
@@ -46,6 +46,7 @@ pub record EmptyFails (f : Fault) (v w : View) (m n : Meaning) : Type 0 where
   pub down : Falls f m n
   pub kept : w ≡ v
 
+-- what emptying a line answers
 abbrev pub Empty : View → View → Meaning → Result (Unit {0}) Fault → Meaning → Type 0
 Empty v w m (Ok _) n = EmptyDone v w m n
 Empty v w m (Err f) n = EmptyFails f v w m n
@@ -67,6 +68,7 @@ pub record FillFails (f : Fault) (w : View) (m n : Meaning) : Type 0 where
   pub down : Falls f m n
   pub none : w .block ≡ 0
 
+-- what filling a line answers
 abbrev pub Fill : ℕ → View → Meaning → Result (Unit {0}) Fault → Meaning → Type 0
 Fill b w m (Ok _) n = FillDone b w m n
 Fill b w m (Err f) n = FillFails f w m n
@@ -99,6 +101,7 @@ pub record EvictDone (i : ℕ) (m : Meaning) (vs : List View) (n : Meaning) (ws 
   pub none : nth ws i .block ≡ 0
   pub absent : (b : ℕ) → (b ≡ 0 → ⊥) → ((k : ℕ) → nth vs k .block ≡ b → ⊥) → (k : ℕ) → nth ws k .block ≡ b → ⊥
 
+-- what freeing a line answers
 abbrev pub Evicted : Result ℕ Fault → Meaning → List View → Meaning → List View → Type 0
 Evicted (Ok i) m vs n ws = EvictDone i m vs n ws
 Evicted (Err f) m vs n ws = Falls f (cached vs m) (cached ws n)
@@ -120,6 +123,7 @@ pub record LoadDone (b i : ℕ) (m : Meaning) (vs : List View) (n : Meaning) (ws
   pub same : cached ws n ≡ cached vs m
   pub block : nth ws i .block ≡ b
 
+-- what reading a block into line i answers
 abbrev pub Loaded : ℕ → ℕ → Result (Unit {0}) Fault → Meaning → List View → Meaning → List View → Type 0
 Loaded b i (Ok _) m vs n ws = LoadDone b i m vs n ws
 Loaded b i (Err f) m vs n ws = Falls f (cached vs m) (cached ws n)
@@ -148,6 +152,7 @@ pub record FetchFails (b place : ℕ) (f : Fault) (m : Meaning) (vs : List View)
   pub call : WordFails b place (f .refusal) (f .block) (cached vs m) (cached ws n)
   pub deep : f .depth ≡ cached vs m .shape .depth (f .refusal) (count m)
 
+-- what fetching a word answers
 abbrev pub Fetched : ℕ → ℕ → Result ℕ Fault → Meaning → List View → Meaning → List View → Type 0
 Fetched b place (Ok i) m vs n ws = FetchDone b place i m vs n ws
 Fetched b place (Err f) m vs n ws = FetchFails b place f m vs n ws
@@ -159,6 +164,10 @@ Any m vs = Unit {0}
 -- some line of a table has the word at a place of block b
 abbrev pub Has : LineTable → ℕ → ℕ → Type 0
 Has t b place = (i : ℕ) × Hit (t .lost) (table-views t) b place i
+
+-- a line with block b was used last: its age is the clock
+abbrev pub Used : ℕ → LineTable → Type 0
+Used b t = (i : ℕ) × ((nth (table-views t) i .block ≡ b) × (getD (ages t) i 0 ≡ t .clock))
 
 -- a new cache over m, whose lines hold nothing
 pub record Opened (m : Meaning) (t : LineTable) : Type 0 where

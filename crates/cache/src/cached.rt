@@ -1,11 +1,11 @@
 // A write-back cache over any store: a changed line goes down when it is evicted or the cache is closed.
 ghost use mathlib.Core.Path.{_≡_};
-ghost use Prim.Native.Nat.{ℕ, _<_};
+ghost use Prim.Native.Nat.{_<_};
 ghost use Rattle.std.specs.Of.Vec.{vec-len};
 ghost use Rattle.std.specs.Vec.{made};
 ghost use Rattle.store.specs.Calls.{Get, Set, Left};
 ghost use Rattle.cache.specs.Lines.{table-views, ages, Unused};
-ghost use Rattle.cache.specs.Steps.{Works, Any, Up, Evicted, Oldest, Loadable, Loaded, Missing, Brought, Fetched, Has, Serves, Opened, Closes};
+ghost use Rattle.cache.specs.Steps.{Works, Any, Up, Evicted, Oldest, Loadable, Loaded, Missing, Brought, Fetched, Has, Used, Serves, Opened, Closes};
 ghost use Rattle.cache.specs.Cache.{cached, Held};
 ghost use Rattle.cache.specs.Laws.Overlays.{cached-sound};
 use crate::line::LineTable;
@@ -138,6 +138,7 @@ pub impl<S: Store> Store for Cache<S> as CacheStore {
         ensures keeps { λ r. ⌜ Serves meaning ready (Get block place) (now (self .entry) .store) (now (self .entry) .table) r (now (self .exit) .store) (now (self .exit) .table) ⌝ }
         ensures did { λ _. ⌜ Unit {0} ⌝ }
         ensures hit { λ _. ⌜ (Has (now (self .entry) .table) block place → now (self .exit) .store ≡ now (self .entry) .store) ⌝ }
+        ensures used { λ r. ⌜ (ready (now (self .entry) .store) → Held (meaning (now (self .entry) .store)) (now (self .entry) .table .lost) (table-views (now (self .entry) .table)) → made r (λ _. Used block (now (self .exit) .table))) ⌝ }
     {
         let i = self.fetch(block, place)?;
         self.table.touch(i);
@@ -148,6 +149,7 @@ pub impl<S: Store> Store for Cache<S> as CacheStore {
         ensures keeps { λ r. ⌜ Serves meaning ready (Set block place word) (now (self .entry) .store) (now (self .entry) .table) r (now (self .exit) .store) (now (self .exit) .table) ⌝ }
         ensures did { λ _. ⌜ Unit {0} ⌝ }
         ensures hit { λ _. ⌜ (Has (now (self .entry) .table) block place → now (self .exit) .store ≡ now (self .entry) .store) ⌝ }
+        ensures used { λ r. ⌜ (ready (now (self .entry) .store) → Held (meaning (now (self .entry) .store)) (now (self .entry) .table .lost) (table-views (now (self .entry) .table)) → made r (λ _. Used block (now (self .exit) .table))) ⌝ }
     {
         let i = self.fetch(block, place)?;
         self.table.touch(i);

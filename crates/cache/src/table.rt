@@ -17,13 +17,16 @@ use crate::line::LineTable;
 use std::alloc::AllocError;
 use std::alloc::Global;
 use store::fault::Fault;
+use store::fault::FaultDebug;
+use store::fault::FaultEq;
+use store::fault::FaultPartialEq;
 use store::fault::Refusal;
 
 // The words of the largest block.
 const WIDEST: usize = 512;
 
 // Why no table was made.
-#[derive(Clone, Copy)]
+#[derive(Clone, Copy, PartialEq, Eq, Debug)]
 pub enum Unmade {
     Refused(Fault),
     NoMemory,
@@ -47,7 +50,8 @@ impl Line {
 
     // Sets the word at a place, if there is one, and marks the line as changed.
     pub(crate) fn put(&mut self, place: u32, word: u64)
-        ensures { λ _. ⌜ view (now (self .exit)) ≡ set-view (view (now (self .entry))) place word ⌝ }
+        ensures view { λ _. ⌜ view (now (self .exit)) ≡ set-view (view (now (self .entry))) place word ⌝ }
+        ensures used { λ _. ⌜ now (self .exit) .used ≡ now (self .entry) .used ⌝ }
     {
         self.changed = true;
         if (place as usize) < self.words.len() {
@@ -162,6 +166,8 @@ impl LineTable {
     pub(crate) fn write(&mut self, i: usize, place: u32, word: u64)
         requires { ⌜ i < vec-len (now self .lines) ⌝ }
         ensures lost { λ _. ⌜ now (self .exit) .lost ≡ now (self .entry) .lost ⌝ }
+        ensures clock { λ _. ⌜ now (self .exit) .clock ≡ now (self .entry) .clock ⌝ }
+        ensures ages { λ _. ⌜ ages (now (self .exit)) ≡ ages (now (self .entry)) ⌝ }
         ensures views { λ _. ⌜ table-views (now (self .exit)) ≡ set (table-views (now (self .entry))) i (set-view (nth (table-views (now (self .entry))) i) place word) ⌝ }
     {
         self.at(i).put(place, word);

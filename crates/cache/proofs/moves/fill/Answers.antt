@@ -1,8 +1,8 @@
 use mathlib.Core.Path.{_≡_, refl, sym, ap, _∙_, subst}
-use Prim.Native.Nat.{_+_, _≤_}
+use Prim.Native.Nat.{_+_}
 use native.Mathlib.Omega.{arith}
 use Rattle.cache.proofs.Exits.{at-exit}
-use Rattle.cache.proofs.Parts.{Fronts, get-exit, stock-exit, fronts-more, fronts-all}
+use Rattle.cache.proofs.Parts.{Fronts, get-exit, fronts-more, fronts-all}
 use Rattle.cache.proofs.moves.fill.Needs as need
 
 pub loop-i-holds : need.loop-i-holds

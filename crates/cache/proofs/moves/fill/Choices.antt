@@ -1,7 +1,7 @@
 use mathlib.Core.Path.{_≡_}
 use mathlib.Core.Bool.{true}
 use Prim.Native.Nat.{_≤_}
-use Rattle.std.specs.Of.Vec.{vec-items, vec-cap, vec-len}
+use Rattle.std.specs.Of.Vec.{vec-items, vec-len}
 use Rattle.cache.proofs.Parts.{Fronts}
 use Rattle.cache.proofs.moves.fill.Given as given
 

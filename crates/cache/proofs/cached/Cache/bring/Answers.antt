@@ -1,4 +1,3 @@
-use mathlib.Core.Path.{_≡_, refl, sym, ap, _∙_}
 use native.Mathlib.Omega.{arith}
 use Rattle.cache.proofs.Exits.{at-exit}
 use Rattle.cache.proofs.Fetches.{then-loadable, loaded-on, falls-on}

@@ -1,9 +1,9 @@
-use mathlib.Core.Path.{_≡_, refl, sym, ap, _∙_, subst}
-use Prim.Native.Nat.{ℕ, _<_, _≤_}
+use mathlib.Core.Path.{refl, sym, ap, _∙_, subst}
+use Prim.Native.Nat.{_<_}
 use native.Mathlib.Omega.{arith}
 use lib.ListN.{length}
 use Rattle.std.proofs.shelf.Lists.{length-map, map-set}
-use Rattle.cache.specs.Lines.{view, nth, table-views}
+use Rattle.cache.specs.Lines.{view, table-views}
 use Rattle.cache.specs.Cache.{flat, Held}
 use Rattle.cache.specs.Steps.{EmptyDone}
 use Rattle.cache.proofs.TableLines.{view-at}

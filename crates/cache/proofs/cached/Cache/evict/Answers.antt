@@ -1,10 +1,10 @@
-use mathlib.Core.Path.{_≡_, refl, sym, ap, _∙_, subst}
+use mathlib.Core.Path.{_≡_, sym, ap, _∙_, subst}
 use Prim.Native.Nat.{_<_}
 use native.Mathlib.Omega.{arith}
 use lib.ListN.{length, set}
 use Rattle.std.specs.Of.Vec.{vec-len}
 use Rattle.std.proofs.shelf.Lists.{length-map}
-use Rattle.cache.specs.Lines.{view, views, nth, table-views}
+use Rattle.cache.specs.Lines.{view, views, table-views}
 use Rattle.cache.specs.Cache.{cached, Held}
 use Rattle.cache.specs.Steps.{Empty, EvictDone, Falls}
 use Rattle.cache.proofs.Exits.{at-exit}

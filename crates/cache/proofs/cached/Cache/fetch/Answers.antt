@@ -1,11 +1,11 @@
-use mathlib.Core.Path.{_≡_, refl, sym, ap, _∙_, subst}
+use mathlib.Core.Path.{_≡_, refl, sym, ap, subst}
 use native.Mathlib.Omega.{arith}
 use Rattle.std.proofs.shelf.Lists.{length-map}
 use Rattle.cache.specs.Lines.{view, views, table-views}
 use Rattle.cache.specs.Cache.{Held}
 use Rattle.cache.specs.Steps.{FetchFails, Brought, Missing}
 use Rattle.cache.proofs.Exits.{at-exit}
-use Rattle.cache.proofs.Fetches.{found, not-missed, first-err, First, first-ok, fetched}
+use Rattle.cache.proofs.Fetches.{found, not-missed, first-err, first-ok, fetched}
 use Rattle.cache.proofs.cached.Cache.fetch.Needs as need
 
 pub returns-in-Some : need.returns-in-Some

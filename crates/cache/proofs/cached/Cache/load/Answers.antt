@@ -1,11 +1,11 @@
-use mathlib.Core.Path.{_≡_, refl, sym, ap, _∙_, subst}
+use mathlib.Core.Path.{_≡_, sym, ap, _∙_, subst}
 use Prim.Native.Nat.{_<_}
 use native.Mathlib.Omega.{arith}
 use lib.ListN.{length, set}
 use Rattle.std.specs.Of.Vec.{vec-len}
 use Rattle.std.proofs.shelf.Lists.{length-map}
-use Rattle.cache.specs.Lines.{view, views, nth, table-views}
-use Rattle.cache.specs.Cache.{cached, Held}
+use Rattle.cache.specs.Lines.{view, views, table-views}
+use Rattle.cache.specs.Cache.{Held}
 use Rattle.cache.specs.Steps.{Loaded}
 use Rattle.cache.proofs.TableLines.{view-at, views-set}
 use Rattle.cache.proofs.Evicts.{load-all}

@@ -1,11 +1,12 @@
-use mathlib.Core.Path.{_≡_, refl, sym, ap, _∙_, subst}
+use mathlib.Core.Path.{_≡_, sym, ap, _∙_, subst}
 use native.Mathlib.Omega.{arith}
 use lib.ListN.{getD}
+use Rattle.std.proofs.shelf.Lists.{length-map}
 use Rattle.store.specs.Calls.{GetDone}
-use Rattle.cache.specs.Lines.{nth, table-views}
+use Rattle.cache.specs.Lines.{nth, table-views, ages}
 use Rattle.cache.specs.Cache.{cached, Held}
 use Rattle.cache.proofs.Exits.{at-exit}
-use Rattle.cache.proofs.TableLines.{word-at}
+use Rattle.cache.proofs.TableLines.{word-at, age-at}
 use Rattle.cache.proofs.Services.{got}
 use Rattle.cache.proofs.cached.CacheStore.get.Needs as need
 
@@ -16,6 +17,7 @@ returns-in-Break-i g c =
       keeps = λ r. let e = c .in-Break-i .ensures tt .works (r .0) (r .1) tt in record { call = e .call .call; deep = e .call .deep; ready = (e .ready, e .held) };
       did = tt;
       hit = λ p. ap (λ s. s .store) (c .fetch .ensures .hit p);
+      used = λ r h. tt;
     })
 
 pub read-requires : need.read-requires
@@ -28,7 +30,8 @@ returns g c =
     let m = g .S·Store .meaning (s .store) in
     let n = g .S·Store .meaning (c .fetch .last .self .store) in
     let vs = table-views (s .table) in
-    let ws = table-views (c .fetch .last .self .table) in
+    let t = c .fetch .last .self .table in
+    let ws = table-views t in
     let ue : table-views (c .touch .last .self) ≡ ws = c .touch .ensures .views in
     let value : c .read .result ≡ getD (nth ws i .words) (c .args .place) 0 = word-at i _ _ ue (c .read .ensures) (omega arith) in
     record {
@@ -43,4 +46,7 @@ returns g c =
           };
       did = tt;
       hit = λ p. ap (λ s. s .store) (c .fetch .ensures .hit p);
+      used = λ r h.
+          let e = c .in-Continue-i .ensures tt .works r h tt in
+          (i, (ap (λ us. nth us i .block) ue ∙ e .call .block, age-at (ages t) i (c .touch .last .self .clock) (omega (arith, t .lines .ok .0, length-map (t .lines .items) (λ l. l .used), c .in-Continue-i .ensures tt .within)) (c .touch .ensures .clock)));
     }

@@ -1,10 +1,13 @@
-use mathlib.Core.Path.{_≡_, refl, sym, ap, _∙_, subst}
+use mathlib.Core.Path.{sym, ap, _∙_, subst}
 use native.Mathlib.Omega.{arith}
 use lib.ListN.{set}
+use Rattle.std.proofs.shelf.Lists.{length-map}
 use Rattle.store.specs.Calls.{SetDone}
-use Rattle.cache.specs.Lines.{nth, table-views, set-view}
+use Rattle.cache.specs.Lines.{nth, table-views, ages, set-view}
 use Rattle.cache.specs.Cache.{cached, Held}
 use Rattle.cache.proofs.Exits.{at-exit}
+use Rattle.cache.proofs.Overs.{within, nth-same}
+use Rattle.cache.proofs.TableLines.{age-at}
 use Rattle.cache.proofs.Services.{wrote}
 use Rattle.cache.proofs.cached.CacheStore.set.Needs as need
 
@@ -15,6 +18,7 @@ returns-in-Break-i g c =
       keeps = λ r. let e = c .in-Break-i .ensures tt .works (r .0) (r .1) tt in record { call = e .call .call; deep = e .call .deep; ready = (e .ready, e .held) };
       did = tt;
       hit = λ p. ap (λ s. s .store) (c .fetch .ensures .hit p);
+      used = λ r h. tt;
     })
 
 pub write-requires : need.write-requires
@@ -30,7 +34,8 @@ returns g c =
     let m = g .S·Store .meaning (s .store) in
     let n = g .S·Store .meaning (c .fetch .last .self .store) in
     let vs = table-views (s .table) in
-    let ws = table-views (c .fetch .last .self .table) in
+    let t = c .fetch .last .self .table in
+    let ws = table-views t in
     let ue = c .write .ensures .views ∙ ap (λ us. set us i (set-view (nth us i) place word)) (c .touch .ensures .views) in
     let lost = c .write .ensures .lost ∙ c .touch .ensures .lost in
     record {
@@ -45,4 +50,14 @@ returns g c =
           };
       did = tt;
       hit = λ p. ap (λ s. s .store) (c .fetch .ensures .hit p);
+      used = λ r h.
+          let e = c .in-Continue-i .ensures tt .works r h tt in
+          let l = within ws i (λ q. e .call .some (sym (e .call .block) ∙ q)) in (
+            i,
+            (
+              ap (λ us. nth us i .block) ue ∙ ap (λ v. v .block) (nth-same ws i (set-view (nth ws i) place word) l) ∙ e .call .block,
+              age-at (ages t) i (c .write .last .self .clock) (omega (arith, t .lines .ok .0, length-map (t .lines .items) (λ l. l .used), c .in-Continue-i .ensures tt .within))
+                  (c .write .ensures .ages ∙ c .touch .ensures .clock ∙ ap (set (ages t) i) (sym (c .write .ensures .clock))),
+            ),
+          );
     }

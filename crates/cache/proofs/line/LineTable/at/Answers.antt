@@ -1,4 +1,4 @@
-use mathlib.Core.Path.{refl, sym}
+use mathlib.Core.Path.{refl}
 use Rattle.std.specs.Changed.{with-item}
 use Rattle.cache.proofs.TableLines.{same-table}
 use Rattle.cache.proofs.line.LineTable.at.Needs as need

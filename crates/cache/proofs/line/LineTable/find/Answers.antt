@@ -1,8 +1,8 @@
-use mathlib.Core.Path.{_≡_, refl, sym, ap, _∙_}
+use mathlib.Core.Path.{_≡_, sym, ap, _∙_}
 use native.Mathlib.Omega.{arith}
 use borrow.Author.Count.{below-more}
 use Rattle.std.proofs.shelf.Lists.{length-map}
-use Rattle.cache.specs.Lines.{view, views, nth}
+use Rattle.cache.specs.Lines.{view}
 use Rattle.cache.proofs.TableLines.{view-at, all-below}
 use Rattle.cache.proofs.line.LineTable.find.Needs as need
 

@@ -1,6 +1,6 @@
-use mathlib.Core.Path.{_≡_, refl, sym, ap, _∙_}
+use mathlib.Core.Path.{refl, sym, ap}
 use native.Mathlib.Omega.{arith}
-use lib.ListN.{length, set}
+use lib.ListN.{set}
 use Rattle.std.proofs.shelf.Lists.{map-set}
 use Rattle.cache.specs.Lines.{table-views, free-view}
 use Rattle.cache.proofs.TableLines.{view-at}

@@ -1,8 +1,5 @@
-use mathlib.Core.Path.{_≡_, refl, sym, ap, _∙_}
 use native.Mathlib.Omega.{arith}
 use borrow.Author.Count.{below-more}
-use lib.ListN.{getD}
-use Rattle.cache.specs.Lines.{ages}
 use Rattle.cache.proofs.TableLines.{used-at}
 use Rattle.cache.proofs.line.LineTable.oldest.Needs as need
 use Rattle.cache.proofs.line.LineTable.oldest.Needs.{then-index, else-index}

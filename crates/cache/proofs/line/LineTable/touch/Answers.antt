@@ -1,7 +1,7 @@
 use mathlib.Core.Path.{refl}
 use native.Mathlib.Omega.{arith}
 use Rattle.std.proofs.shelf.Lists.{map-set}
-use Rattle.cache.proofs.TableLines.{views-kept, ages-set}
+use Rattle.cache.proofs.TableLines.{views-kept}
 use Rattle.cache.proofs.line.LineTable.touch.Needs as need
 
 pub returns : need.returns
