@@ -2,7 +2,10 @@
 ghost use Prim.Native.Nat.{_≤_};
 ghost use Rattle.std.specs.Of.Vec.{vec-cap, vec-len};
 
-// The words of a block, 0 for none; whether they were set since they were last written below; when it was last used.
+// The words of the largest block.
+pub(crate) const WIDEST: u32 = 512;
+
+// A block, 0 for none, and its words; whether they were set since they were last written below; when it was last used.
 #[derive(Drop)]
 pub struct Line {
     pub(crate) block: u32,

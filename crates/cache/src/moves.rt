@@ -3,11 +3,9 @@ ghost use Rattle.store.specs.Calls.{Leaves};
 ghost use Rattle.cache.specs.Lines.{view};
 ghost use Rattle.cache.specs.Steps.{Spilled, Emptied, Filled, Heard};
 use crate::line::Line;
+use crate::line::WIDEST;
 use store::blocks::Store;
 use store::fault::Fault;
-
-// The words of the largest block.
-const WIDEST: u32 = 512;
 
 // Writes the words of a line into its block below.
 fn spill<S: Store>(store: &mut S, line: &Line) -> Result<(), Fault>

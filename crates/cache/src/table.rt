@@ -14,6 +14,7 @@ ghost use Rattle.cache.specs.contracts.line.LineTable.{the-row};
 ghost use Rattle.cache.specs.contracts.line.Line.{the-row as line-row};
 use crate::line::Line;
 use crate::line::LineTable;
+use crate::line::WIDEST;
 use std::alloc::AllocError;
 use std::alloc::Global;
 use store::fault::Fault;
@@ -21,9 +22,6 @@ use store::fault::FaultDebug;
 use store::fault::FaultEq;
 use store::fault::FaultPartialEq;
 use store::fault::Refusal;
-
-// The words of the largest block.
-const WIDEST: usize = 512;
 
 // Why no table was made.
 #[derive(Clone, Copy, PartialEq, Eq, Debug)]
@@ -70,7 +68,7 @@ impl LineTable {
         }
         let mut made = Vec::with_capacity(heap, lines as usize)?;
         for _ in 0..lines {
-            let words = Vec::with_capacity(heap, WIDEST)?;
+            let words = Vec::with_capacity(heap, WIDEST as usize)?;
             made.push_reserved(Line {
                 block: 0,
                 changed: false,
