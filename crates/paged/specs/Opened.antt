@@ -6,7 +6,6 @@ use denote.Ref.{now}
 use lib.ListN.{length}
 use Rattle.std.specs.declared.result.Result.{Result}
 use Rattle.std.specs.declared.result.Result.the-variants.{Ok, Err}
-use Rattle.store.specs.declared.fault.Fault.{Fault}
 use Rattle.store.specs.declared.fault.Refusal.the-variants.{Misfit}
 use Rattle.store.specs.Faults.{own-fault}
 use Rattle.store.specs.Meaning.{Meaning}

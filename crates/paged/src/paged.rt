@@ -5,7 +5,7 @@
 ghost use mathlib.Core.Path.{_≡_};
 ghost use Prim.Native.Nat.{ℕ, _<_, _≤_};
 ghost use denote.Ref.{now};
-ghost use lib.ListN.{length, getD};
+ghost use lib.ListN.{getD};
 ghost use Rattle.store.specs.Meaning.{count-to};
 ghost use Rattle.stores.specs.Table.{in-use};
 ghost use Rattle.paged.specs.Frames.{slot-at};

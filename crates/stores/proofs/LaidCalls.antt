@@ -18,7 +18,7 @@ use Rattle.store.specs.Calls.GiveFails.{give-missing}
 use Rattle.store.specs.Calls.WordFails.{word-missing, word-outside}
 use Rattle.stores.specs.Table.{in-use, laid, wiped}
 use Rattle.stores.specs.Located.{Found, Missed}
-use Rattle.stores.specs.Laws.Laid.{Lies, used-parts, free-from, word-used, laid-set, laid-give, laid-take, count-marked}
+use Rattle.stores.specs.Laws.Laid.{Lies, free-from, word-used, laid-set, laid-give, laid-take, count-marked}
 
 -- the store was up, and stays as it is
 abbrev up : (m : Meaning) → m .down ≡ false → Kept m m

@@ -1,7 +1,7 @@
 -- What the parts of a table store's calls do, by its fields.
 use mathlib.Core.Path.{_≡_}
 use mathlib.Core.List.{List}
-use Prim.Native.Nat.{ℕ, _+_, _-_, _*_, _≤_, _<_, min}
+use Prim.Native.Nat.{ℕ, _+_, _-_, _*_, _≤_, min}
 use denote.Ref.{now}
 use lib.ListN.{length, set}
 use Rattle.std.specs.declared.result.Result.{Result}

@@ -9,7 +9,7 @@ use lib.Dec.{eqb, leb, ltb}
 use lib.ListN.{length, getD, set}
 use Rattle.std.proofs.shelf.Lists.{getD-set-same, getD-set-other}
 use Rattle.std.proofs.shelf.Tests.{cases-bool, cases-lt, and-parts, and-from, and-left, and-right, ltb-true, leb-true, lt-ltb, le-leb, lt-leb, le-ltb, eqb-false, eq-eqb, ne-eqb, not-true, not-from-true, not-from-false, cond-true, cond-false}
-use Rattle.store.specs.Meaning.{Meaning, Sound, limit, count-to, with-at, with-blocks, taken, returned, written}
+use Rattle.store.specs.Meaning.{Sound, limit, count-to, with-at, with-blocks, taken, returned, written}
 use Rattle.store.specs.Laws.Changes.{with-at-from}
 use Rattle.store.specs.Laws.Counts.{count-past, count-full, count-on, count-off, count-none, count-more, count-less}
 use Rattle.stores.specs.Table.{in-use, word-in, laid, blank, wiped, unmarked}

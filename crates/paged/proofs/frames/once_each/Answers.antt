@@ -1,4 +1,4 @@
-use mathlib.Core.Path.{sym, _∙_}
+use mathlib.Core.Path.{sym}
 use native.Mathlib.Omega.{arith}
 use Rattle.paged.proofs.Checking.{seen-none, seen-awry, seen-more, seen-all}
 use Rattle.paged.proofs.frames.once_each.Needs as need
