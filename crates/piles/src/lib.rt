@@ -1,0 +1,2 @@
+// Piles of stores: made, used and taken apart again.
+pub mod one;
