@@ -1,1 +1,3 @@
 pub mod Ones
+pub mod Sinks
+pub mod Runs

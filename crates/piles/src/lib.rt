@@ -1,2 +1,3 @@
 // Piles of stores: made, used and taken apart again.
 pub mod one;
+pub mod quotas;
