@@ -17,9 +17,14 @@ use Rattle.store.specs.Laws.Counts.{count-none, count-past}
 use Rattle.store.specs.Laws.Changes.{with-at-here}
 use Rattle.stores.specs.Table.{in-use, word-in, in-row, table, blank, most-blocks, Fits}
 use Rattle.quota.specs.Quota.{quota-shape}
+use Rattle.cache.specs.Cache.{cached-shape}
+use Rattle.cache.specs.Lines.{Made}
+use Rattle.cache.specs.declared.table.Unmade.{Unmade}
+use Rattle.cache.specs.declared.table.Unmade.the-variants.{Refused, NoMemory}
 use Rattle.piles.specs.One.{Use, UseFails, with-one}
 use Rattle.piles.specs.One.UseFails.{use-full, use-lost}
-use Rattle.piles.specs.Runs.{blocks-in, runs-mean, Ran, RunsFail, TwoQuotas}
+use Rattle.piles.specs.Runs.{blocks-in, runs-mean, Ran, RunsFail, TwoQuotas, Cached, Lines, QuotaCache, unmade-by}
+use Rattle.piles.specs.Runs.CacheFail.{no-lines, pile-fail}
 use Rattle.piles.specs.Runs.RunsFail.{runs-full, runs-unfit}
 
 blank-none : (w c : ℕ) → count (blank w c) ≡ 0
@@ -103,3 +108,21 @@ run-two p q w x marks words w′ c′ g′ marks′ words′ l h f r m e u =
     let b = blank w (blocks-in w marks words) in
     run (quota-shape p (quota-shape q (b .shape))) w marks words w′ c′ g′ marks′ words′ l h f x _ (deep-two (leb p 0) (leb q 0)) r
     (subst (λ k. Use (quota-shape p (quota-shape q (k .shape))) x k r (table w′ c′ marks′ words′)) e u)
+
+-- under a quota over a cache
+pub run-cached : (p w x : ℕ) (marks words : List ℕ) (w′ c′ g′ : ℕ) (marks′ words′ : List ℕ) → 1 ≤ w → w ≤ 512 → Fits w′ c′ g′ marks′ words′ → (r : Result ℕ Fault) (m : Meaning) → m ≡ blank w (blocks-in w marks words) → Use (quota-shape p (cached-shape (m .shape))) x m r (table w′ c′ marks′ words′) → Cached p w x marks words r marks′ words′
+run-cached p w x marks words w′ c′ g′ marks′ words′ l h f r m e u =
+    let b = blank w (blocks-in w marks words) in
+    run (quota-shape p (cached-shape (b .shape))) w marks words w′ c′ g′ marks′ words′ l h f x _ refl r
+    (subst (λ k. Use (quota-shape p (cached-shape (k .shape))) x k r (table w′ c′ marks′ words′)) e u)
+
+-- no cache was made
+pub not-made : (p n w x : ℕ) (marks words : List ℕ) (why : Unmade) → Made n (Err why) → QuotaCache p n w x marks words (Err why) marks words
+not-made p n w x marks words (Refused f) d = no-lines (d .no-table) (d .fault) (record { same-marks = refl; same-words = refl })
+not-made p n w x marks words NoMemory d =
+    (record { some = d .0; few = d .1 }, record { same-marks = refl; same-words = refl })
+
+-- a cache of n lines was made
+pub ran-cached : (p n w x : ℕ) (marks words marks′ words′ : List ℕ) → Lines n → (r : Result ℕ Fault) → Cached p w x marks words r marks′ words′ → QuotaCache p n w x marks words (unmade-by r) marks′ words′
+ran-cached p n w x marks words marks′ words′ l (Ok v) d = (l, d)
+ran-cached p n w x marks words marks′ words′ l (Err f) d = pile-fail l d

@@ -12,6 +12,8 @@ use Rattle.store.specs.declared.fault.Refusal.the-variants.{NoRoom, Misfit}
 use Rattle.store.specs.Faults.{own-fault}
 use Rattle.store.specs.Meaning.{Meaning}
 use Rattle.stores.specs.Table.{table, blank, most-blocks}
+use Rattle.cache.specs.declared.table.Unmade.{Unmade}
+use Rattle.cache.specs.declared.table.Unmade.the-variants.{Refused, NoMemory}
 use Rattle.piles.specs.One.{with-one}
 
 -- the blocks of w words that runs hold
@@ -65,3 +67,34 @@ Ran room deep w x marks words (Err f) marks′ words′ = RunsFail room deep w m
 abbrev pub TwoQuotas : ℕ → ℕ → ℕ → ℕ → List ℕ → List ℕ → Result ℕ Fault → List ℕ → List ℕ → Type 0
 TwoQuotas p q w x marks words r marks′ words′ =
     Ran (min p (min q (blocks-in w marks words))) (cond (leb p 0) 1 (cond (leb q 0) 2 3)) w x marks words r marks′ words′
+
+-- an answer, its fault taken for one of the causes
+abbrev pub unmade-by : Result ℕ Fault → Result ℕ Unmade
+unmade-by (Ok v) = Ok v
+unmade-by (Err f) = Err (Refused f)
+
+-- a cache has so many lines
+pub record Lines (n : ℕ) : Type 0 where
+  pub some : 1 ≤ n
+  pub few : n ≤ 16
+
+-- no cache was made, and the runs are as they were
+pub record Untouched (marks words marks′ words′ : List ℕ) : Type 0 where
+  pub same-marks : marks′ ≡ marks
+  pub same-words : words′ ≡ words
+
+-- under a quota of p blocks over a cache
+abbrev pub Cached : ℕ → ℕ → ℕ → List ℕ → List ℕ → Result ℕ Fault → List ℕ → List ℕ → Type 0
+Cached p w x marks words r marks′ words′ =
+    Ran (min p (blocks-in w marks words)) (cond (leb p 0) 1 3) w x marks words r marks′ words′
+
+-- why it was refused: no cache has n lines, or one has and the pile refused
+pub data CacheFail (p n w x : ℕ) (marks words : List ℕ) (f : Fault) (marks′ words′ : List ℕ) : Type 0 where
+  no-lines : (1 ≤ n → 16 < n) → f ≡ own-fault Misfit 0 → Untouched marks words marks′ words′ → CacheFail p n w x marks words f marks′ words′
+  pile-fail : Lines n → Cached p w x marks words (Err f) marks′ words′ → CacheFail p n w x marks words f marks′ words′
+
+-- under a quota of p blocks over a cache of n lines that is made first
+abbrev pub QuotaCache : ℕ → ℕ → ℕ → ℕ → List ℕ → List ℕ → Result ℕ Unmade → List ℕ → List ℕ → Type 0
+QuotaCache p n w x marks words (Ok v) marks′ words′ = Lines n × Cached p w x marks words (Ok v) marks′ words′
+QuotaCache p n w x marks words (Err (Refused f)) marks′ words′ = CacheFail p n w x marks words f marks′ words′
+QuotaCache p n w x marks words (Err NoMemory) marks′ words′ = Lines n × Untouched marks words marks′ words′

@@ -1,3 +1,4 @@
 // Piles of stores: made, used and taken apart again.
+pub mod caches;
 pub mod one;
 pub mod quotas;
