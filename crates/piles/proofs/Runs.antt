@@ -27,11 +27,11 @@ use Rattle.piles.specs.Runs.{blocks-in, runs-mean, Ran, RunsFail, TwoQuotas, C
 use Rattle.piles.specs.Runs.CacheFail.{no-lines, pile-fail}
 use Rattle.piles.specs.Runs.RunsFail.{runs-full, runs-unfit}
 
-blank-none : (w c : ℕ) → count (blank w c) ≡ 0
+pub blank-none : (w c : ℕ) → count (blank w c) ≡ 0
 blank-none w c = count-past (λ b. false) 0 limit (omega arith) (λ b l h. refl) ∙ count-none (λ b. false)
 
 -- a granted block lies within the capacity
-use-high : (c : ℕ) (marks : List ℕ) (b : ℕ) → in-use c marks b ≡ true → b ≤ c
+pub use-high : (c : ℕ) (marks : List ℕ) (b : ℕ) → in-use c marks b ≡ true → b ≤ c
 unfolding in-use
 use-high c marks b h =
     let p = and-parts (ltb 0 b) (leb b c && not (eqb (getD marks (b - 1) 0) 0)) h in
@@ -44,10 +44,10 @@ first-word w c marks words b l h =
     let z : in-row w b 0 ≡ (b - 1) * w = omega arith in
     cond-true _ _ _ (and-from (in-use c marks b) (ltb 0 w) h (lt-ltb 0 w (omega arith))) ∙ ap (λ i. getD words i 0) z
 
-one-granted : (x : ℕ) (m : Meaning) (b : ℕ) → with-one x m b .granted b ≡ true
+pub one-granted : (x : ℕ) (m : Meaning) (b : ℕ) → with-one x m b .granted b ≡ true
 one-granted x m b = with-at-here (m .granted) b true
 
-one-there : (x : ℕ) (m : Meaning) (b : ℕ) → with-one x m b .words b 0 ≡ x
+pub one-there : (x : ℕ) (m : Meaning) (b : ℕ) → with-one x m b .words b 0 ≡ x
 one-there x m b =
     ap (λ β. β 0) (with-at-here (taken m b .words) b (with-at (taken m b .words b) 0 x))
     ∙ with-at-here (taken m b .words b) 0 x

@@ -100,3 +100,36 @@ module _ (x p l l′ : ℕ) (vs ws : List View) (m k n : Meaning) (r : Result �
         same-shape = c .fell .same-shape ∙ z .0;
         same-below = c .fell .same-below ∙ z .1;
       })
+
+-- below a cache whose lines held nothing
+module _ (x : ℕ) (vs ws : List View) (m k n : Meaning) (r : Result ℕ Fault) (e : flat vs m ≡ m) (u : Use (cached-shape (m .shape)) x (cached vs m) r (cached ws k)) where
+  cache-sunk : Use (cached-shape (m .shape)) x m r (flat ws k)
+  cache-sunk =
+      let t = cached-shape (m .shape) in
+      let w : Use t x (flat vs m) r (flat ws k) = sink t (cached vs m) (cached ws k) x r u in
+      subst (λ z. Use t x z r (flat ws k)) e w
+
+  -- once every line is written
+  pub cache-closed : n ≡ flat ws k → Use (cached-shape (m .shape)) x m r n
+  cache-closed c = subst (λ z. Use (cached-shape (m .shape)) x m r z) (sym c) cache-sunk
+
+  -- where closing met a fault
+  pub cache-unclosed : (f : Fault) → CloseFails f k n → UseFails (cached-shape (m .shape)) f m n
+  cache-unclosed f c =
+      let z = kept (cached-shape (m .shape)) x m (flat ws k) r cache-sunk in
+      use-lost (record {
+        refusal = c .refusal;
+        granted-then = count k;
+        depth =
+            c .deep ∙ ap (λ q. one-deeper (k .shape .depth q (count k))) (c .refusal) ∙ ap (λ s. one-deeper (s .depth Down (count k))) (z .0);
+        is-down = c .fell .is-down;
+        same-shape = c .fell .same-shape ∙ z .0;
+        same-below = c .fell .same-below ∙ z .1;
+      })
+
+-- below a quota that was made with q, under a cache
+pub below-quota : (x q l l′ : ℕ) (m n : Meaning) (r : Result ℕ Fault) → l ≡ q → Use (cached-shape (quota-shape l (m .shape))) x (under l m) r (under l′ n) → Use (cached-shape (quota-shape q (m .shape))) x m r n
+below-quota x q l l′ m n r a u =
+    let t = cached-shape (quota-shape l (m .shape)) in
+    let v : Use t x m r n = sink t (under l m) (under l′ n) x r u in
+    subst (λ i. Use (cached-shape (quota-shape i (m .shape))) x m r n) a v
