@@ -2,7 +2,7 @@
 use mathlib.Core.Path.{_≡_, refl, sym, ap, _∙_, subst}
 use mathlib.Core.Bool.{Bool, true, false, cond}
 use mathlib.Core.List.{List}
-use Prim.Native.Nat.{ℕ, _≤_, _<_}
+use Prim.Native.Nat.{ℕ, _*_, _/_, _≤_, _<_}
 use native.Mathlib.Omega.{arith}
 use lib.Dec.{leb, ltb}
 use lib.ListN.{length, getD}
@@ -20,7 +20,7 @@ use Rattle.cache.specs.Lines.{Made}
 use Rattle.cache.specs.declared.table.Unmade.{Unmade}
 use Rattle.cache.specs.declared.table.Unmade.the-variants.{Refused as Declined, NoMemory as NoHeap}
 use Rattle.paged.specs.declared.paged.Cause.{Cause}
-use Rattle.paged.specs.Frames.{paged, paged-at, FramesFit}
+use Rattle.paged.specs.Frames.{frames-of, paged, paged-at, Apt, FramesFit}
 use Rattle.piles.specs.One.{Use, UseFails, with-one}
 use Rattle.piles.specs.One.UseFails.{use-full, use-lost}
 use Rattle.piles.specs.Runs.{Lines}
@@ -35,7 +35,7 @@ unfolding word-in
 first-page w c map marks words b l h =
     cond-true _ _ _ (and-from (in-use c marks b) (ltb 0 w) h (lt-ltb 0 w (omega arith)))
 
-module _ (top : Shape) (w : ℕ) (a b : Pages) (w′ c′ g′ : ℕ) (l : 1 ≤ w) (h : w ≤ 512) (f : FramesFit w′ c′ g′ (b .map) (b .marks) (b .words)) where
+module _ (top : Shape) (w : ℕ) (a b : Pages) (w′ c′ g′ : ℕ) (l : 1 ≤ w) (h : w ≤ 512) (f : FramesFit w′ c′ g′ (b .map) (b .marks) (b .words)) (y : Apt (a .map) (pages-in w a * frames-of w) (length (a .words) / 64)) where
   abbrev c : ℕ
   c = pages-in w a
 
@@ -54,6 +54,7 @@ module _ (top : Shape) (w : ℕ) (a b : Pages) (w′ c′ g′ : ℕ) (l : 1 ≤
         record {
           wide = l;
           narrow = h;
+          apt = y;
           no-room = omega (arith, u .no-room);
           refusal = u .refusal;
           block = u .block;
@@ -71,6 +72,7 @@ module _ (top : Shape) (w : ℕ) (a b : Pages) (w′ c′ g′ : ℕ) (l : 1 ≤
         record {
           wide = l;
           narrow = h;
+          apt = y;
           some-room = omega (arith, u .had-room);
           value = u .value;
           block = u .block;
@@ -88,10 +90,10 @@ deep-cached true = refl
 deep-cached false = refl
 
 -- under a cache over a quota
-pub run-pages : (q w x : ℕ) (a b : Pages) (w′ c′ g′ : ℕ) → 1 ≤ w → w ≤ 512 → FramesFit w′ c′ g′ (b .map) (b .marks) (b .words) → (r : Result ℕ Fault) (m : Meaning) → m ≡ blank w (pages-in w a) → Use (cached-shape (quota-shape q (m .shape))) x m r (paged w′ c′ (b .map) (b .marks) (b .words)) → CachedPages q w x a r b
-run-pages q w x a b w′ c′ g′ l h f r m e u =
+pub run-pages : (q w x : ℕ) (a b : Pages) (w′ c′ g′ : ℕ) → 1 ≤ w → w ≤ 512 → FramesFit w′ c′ g′ (b .map) (b .marks) (b .words) → Apt (a .map) (pages-in w a * frames-of w) (length (a .words) / 64) → (r : Result ℕ Fault) (m : Meaning) → m ≡ blank w (pages-in w a) → Use (cached-shape (quota-shape q (m .shape))) x m r (paged w′ c′ (b .map) (b .marks) (b .words)) → CachedPages q w x a r b
+run-pages q w x a b w′ c′ g′ l h f y r m e u =
     let k = blank w (pages-in w a) in
-    run (cached-shape (quota-shape q (k .shape))) w a b w′ c′ g′ l h f x _ (deep-cached (leb q 0)) r
+    run (cached-shape (quota-shape q (k .shape))) w a b w′ c′ g′ l h f y x _ (deep-cached (leb q 0)) r
     (subst (λ z. Use (cached-shape (quota-shape q (z .shape))) x z r (paged w′ c′ (b .map) (b .marks) (b .words))) e u)
 
 -- a paged store was made
@@ -115,3 +117,11 @@ pages-same {map} {map′} {marks} {marks′} {words} {words′} p q r =
     ap (λ k. record { map = k; marks = marks; words = words }) p
     ∙ ap (λ k. record { map = map′; marks = k; words = words }) q
     ∙ ap (λ k. record { map = map′; marks = marks′; words = k }) r
+
+-- a map that a store was made over is apt
+pub apt-from : (w : ℕ) (a : Pages) (w′ c′ g′ : ℕ) (map′ marks′ words′ : List ℕ) → FramesFit w′ c′ g′ map′ marks′ words′ → w′ ≡ w → c′ ≡ pages-in w a → map′ ≡ a .map → words′ ≡ a .words → Apt (a .map) (pages-in w a * frames-of w) (length (a .words) / 64)
+apt-from w a w′ c′ g′ map′ marks′ words′ f e d i j =
+    subst (λ k. Apt (a .map) (pages-in w a * frames-of k) (length (a .words) / 64)) e
+    (subst (λ k. Apt (a .map) (k * frames-of w′) (length (a .words) / 64)) d
+    (subst (λ k. Apt k (c′ * frames-of w′) (length (a .words) / 64)) i
+    (subst (λ k. Apt map′ (c′ * frames-of w′) (length k / 64)) j (f .apt))))

@@ -2,7 +2,7 @@
 use mathlib.Core.Path.{_≡_}
 use mathlib.Core.Bool.{cond}
 use mathlib.Core.List.{List}
-use Prim.Native.Nat.{ℕ, _≤_, _<_, min}
+use Prim.Native.Nat.{ℕ, _*_, _/_, _≤_, _<_, min}
 use lib.Dec.{leb}
 use lib.ListN.{length, getD}
 use Rattle.std.specs.declared.result.Result.{Result}
@@ -14,7 +14,7 @@ use Rattle.store.specs.Meaning.{Meaning}
 use Rattle.stores.specs.Table.{blank}
 use Rattle.paged.specs.declared.paged.Cause.{Cause}
 use Rattle.paged.specs.declared.paged.Cause.the-variants.{Refused, NoMemory}
-use Rattle.paged.specs.Frames.{paged, paged-at}
+use Rattle.paged.specs.Frames.{frames-of, paged, paged-at, Apt}
 use Rattle.paged.specs.Opened.{most-paged, Because}
 use Rattle.cache.specs.declared.table.Unmade.{Unmade}
 use Rattle.cache.specs.declared.table.Unmade.the-variants.{Refused as Declined, NoMemory as NoHeap}
@@ -40,6 +40,7 @@ pages-mean w a = paged w (pages-in w a) (a .map) (a .marks) (a .words)
 pub record PagesDone (room w x : ℕ) (a : Pages) (v : ℕ) (b : Pages) : Type 0 where
   pub wide : 1 ≤ w
   pub narrow : w ≤ 512
+  pub apt : Apt (a .map) (pages-in w a * frames-of w) (length (a .words) / 64)
   pub some-room : 0 < room
   pub value : v ≡ x
   pub block : ℕ
@@ -52,6 +53,7 @@ pub record PagesDone (room w x : ℕ) (a : Pages) (v : ℕ) (b : Pages) : Type 0
 pub record PagesFull (room deep w : ℕ) (a : Pages) (f : Fault) (b : Pages) : Type 0 where
   pub wide : 1 ≤ w
   pub narrow : w ≤ 512
+  pub apt : Apt (a .map) (pages-in w a * frames-of w) (length (a .words) / 64)
   pub no-room : room ≡ 0
   pub refusal : f .refusal ≡ NoRoom
   pub block : f .block ≡ 0
