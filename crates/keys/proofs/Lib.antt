@@ -1,2 +1,6 @@
 pub mod Alike
+pub mod Bytes
+pub mod Digits
+pub mod Halves
 pub mod Ranks
+pub mod Totals

@@ -2,7 +2,9 @@
 use mathlib.Core.Path.{_≡_, refl, ap}
 use mathlib.Core.Bool.{true, false, true≢false}
 use Prim.Native.Nat.{ℕ, _<_}
-use Rattle.std.specs.Keys.{rank, ranks, means, below-irrefl, below-chain}
+use lib.IntN.{ℤ}
+use lib.Signed.{_<ℤ_, <ℤ-irrefl}
+use Rattle.std.specs.Keys.{rank, ranks, rankZ, ranksZ, chainZ, means, below-irrefl, below-chain}
 use Rattle.std.specs.Orderings.{thenBy, isLt, isEq, isGt}
 use Rattle.std.specs.declared.cmp.Ordering.{Ordering}
 use Rattle.std.specs.declared.cmp.Ordering.the-variants.{Less, Equal, Greater}
@@ -16,3 +18,6 @@ both-equal Greater b e = absurd (true≢false (ap isGt e))
 -- numbers that rank equal are the same
 pub rank-equal : (x y : ℕ) → rank x y ≡ Equal → x ≡ y
 rank-equal x y e = means (λ (a b : ℕ). a < b) below-irrefl below-chain rank ranks x y Equal e
+
+pub rankZ-equal : (x y : ℤ) → rankZ x y ≡ Equal → x ≡ y
+rankZ-equal x y e = means (λ (a b : ℤ). a <ℤ b) (λ x h. <ℤ-irrefl h) chainZ rankZ ranksZ x y Equal e
