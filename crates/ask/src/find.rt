@@ -4,16 +4,10 @@ use keys::key::Key;
 use nodes::read::entry_child;
 use nodes::read::entry_key;
 use nodes::search::keys_up_to;
+use plain::pair::Pair;
 use std::cmp::Ordering;
 use store::blocks::Store;
 use store::fault::Fault;
-
-// A key and its handle.
-#[derive(Clone, Copy)]
-pub struct Pair<K> {
-    pub key: K,
-    pub handle: u64,
-}
 
 // The leaf that a key belongs to.
 fn leaf_of<K: Key, S: Store>(store: &mut S, root: u32, level: u32, key: &K) -> Result<u32, Fault> {

@@ -7,13 +7,9 @@ use native.Mathlib.Omega.{arith}
 use native.Mathlib.Numerals.{add-one}
 use lib.ListN.{length, take, drop, getD}
 use Rattle.std.proofs.shelf.Tests.{cases-lt}
-use Rattle.balance.specs.Cuts.{total, sum, Largest}
-
--- a list in two parts
-pub split-sum : {X : Type 0} (w : X → ℕ) (xs : List X) (r : ℕ) → total w (take r xs) + total w (drop r xs) ≡ total w xs
-split-sum w xs zero = omega arith
-split-sum w [] (suc r) = omega arith
-split-sum w (x ∷ xs) (suc r) = omega (arith, split-sum w xs r)
+use Rattle.tree.specs.Laws.{Largest}
+use Rattle.tree.proofs.Words.{split-sum}
+use Rattle.balance.specs.Cuts.{sum}
 
 sum-suc : (xs : List ℕ) (i d : ℕ) → i < length xs → sum (take (suc i) xs) ≡ sum (take i xs) + getD xs i d
 sum-suc [] i d h = absurd (omega arith)

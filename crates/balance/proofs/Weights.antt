@@ -12,8 +12,9 @@ use Rattle.nodes.specs.Nodes.{Entry, Node, Weighs, Keyed, entries, entry-at}
 use Rattle.nodes.proofs.Upto.{length-upto, getD-upto}
 use Rattle.nodes.proofs.Rooms.{room-place, room-same}
 use Rattle.balance.specs.declared.cut.Cut.{Cut}
-use Rattle.balance.specs.Cuts.{entry-weight, weights, sum, Largest, Mild, Counted, Weighable, Totalled, Heavy, Weighed, Summed, Cut-at, Halved}
-use Rattle.balance.proofs.Sums.{split-sum, sum-more, stopped, ended}
+use Rattle.balance.specs.Cuts.{entry-weight, weights, sum, Mild, Counted, Weighable, Totalled, Heavy, Weighed, Summed, Cut-at, Halved}
+use Rattle.tree.proofs.Words.{split-sum}
+use Rattle.balance.proofs.Sums.{sum-more, stopped, ended}
 
 -- as many entries as the count says
 pub entries-length : (φ : Form) (β : ℕ → ℕ) → length (entries φ β) ≡ β 1

@@ -1,24 +1,15 @@
 -- What a node's entries weigh, and where a node is cut.
 use mathlib.Core.Path.{_≡_}
-use mathlib.Core.List.{List, [], _∷_, map}
-use Prim.Native.Nat.{ℕ, zero, suc, _+_, _^_, _≤_, _<_}
-use lib.ListN.{length, getD, take, drop}
+use mathlib.Core.List.{List, map}
+use Prim.Native.Nat.{ℕ, zero, suc, _^_, _≤_, _<_}
+use lib.ListN.{getD, take, drop}
 use Rattle.store.specs.Meaning.{Meaning}
 use Rattle.nodes.specs.Places.{Form}
 use Rattle.nodes.specs.Nodes.{Entry, Node, entry-at, entries}
+use Rattle.tree.specs.Lists.{total}
+use Rattle.tree.specs.Laws.{Largest}
 use Rattle.balance.specs.declared.cut.Cut.{Cut}
 use Rattle.balance.specs.declared.cut.Halves.{Halves}
-
--- the sum of w over a list
-abbrev pub total : {X : Type 0} → (X → ℕ) → List X → ℕ
-total w [] = 0
-total w (x ∷ xs) = w x + total w xs
-
--- s is the largest number such that the first s weigh at most what the rest weighs
-pub record Largest {X : Type 0} (w : X → ℕ) (xs : List X) (s : ℕ) : Type 0 where
-  pub within : s ≤ length xs
-  pub light : total w (take s xs) ≤ total w (drop s xs)
-  pub largest : (r : ℕ) → r ≤ length xs → total w (take r xs) ≤ total w (drop r xs) → r ≤ s
 
 -- what an entry adds to a node of level l: 1 in a leaf
 abbrev pub entry-weight : ℕ → Entry → ℕ

@@ -1,13 +1,8 @@
 // What an accepted update did at each level.
-
-// What happened to the nodes of one level. `MergeSplit` is a merge whose node was split again.
-#[derive(Clone, Copy, PartialEq, Eq, Debug)]
-pub enum Mark {
-    Nothing,
-    Split,
-    Merge,
-    MergeSplit,
-}
+use tree::mark::Mark;
+use tree::mark::MarkDebug;
+use tree::mark::MarkEq;
+use tree::mark::MarkPartialEq;
 
 // A mark for each level, the leaves first.
 #[derive(Clone, Copy, PartialEq, Eq, Debug)]

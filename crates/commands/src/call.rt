@@ -1,7 +1,7 @@
 // The calls that a line can ask for, and their answers.
-use ask::find::Pair;
 use balance::marks::Marks;
 use keys::checkpoint::Checkpoint;
+use plain::pair::Pair;
 use store::fault::Fault;
 
 #[derive(Clone, Copy)]

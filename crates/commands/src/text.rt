@@ -1,10 +1,10 @@
 // Answers as lines of text.
 use crate::call::Answer;
-use ask::find::Pair;
-use balance::marks::Mark;
 use balance::marks::Marks;
 use keys::checkpoint::Checkpoint;
+use plain::pair::Pair;
 use std::fmt;
+use tree::mark::Mark;
 
 // One letter for what happened at a level.
 fn letter(mark: Mark) -> char {

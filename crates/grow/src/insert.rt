@@ -7,7 +7,6 @@ use crate::split::settle;
 use crate::survey::survey;
 use balance::limits::TOP_LEVEL;
 use balance::limits::limit;
-use balance::marks::Mark;
 use balance::marks::Marks;
 use balance::update::Updated;
 use balance::update::refuse;
@@ -20,6 +19,7 @@ use nodes::search::keys_up_to;
 use store::blocks::Store;
 use store::fault::Fault;
 use store::fault::Refusal;
+use tree::mark::Mark;
 
 // Puts a pair in below a node, whose own weight its parent looks at.
 pub fn insert_below<K: Key, S: Store>(

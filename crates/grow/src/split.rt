@@ -4,7 +4,6 @@ ghost use Rattle.std.specs.declared.result.Result.the-variants.{Ok, Err};
 use balance::cut::Halves;
 use balance::cut::halve;
 use balance::limits::limit;
-use balance::marks::Mark;
 use keys::key::Key;
 use nodes::edit::insert_entry;
 use nodes::edit::move_tail;
@@ -18,6 +17,7 @@ use nodes::read::entry_weight;
 use std::cmp::Ordering;
 use store::blocks::Store;
 use store::fault::Fault;
+use tree::mark::Mark;
 
 // Splits the child at a place of its parent over its block and a new one; `low` is its smallest key.
 pub fn divide<K: Key, S: Store>(

@@ -2,7 +2,6 @@
 ghost use Prim.Native.Nat.{_≤_};
 ghost use Rattle.balance.specs.Limits.{limit-of, Bounded};
 ghost use Rattle.std.specs.declared.result.Result.the-variants.{Ok, Err};
-use ask::find::Pair;
 use ask::find::find;
 use ask::find::floor;
 use balance::marks::Marks;
@@ -16,6 +15,7 @@ use nodes::header::put_header;
 use nodes::layout::LARGEST_BLOCK;
 use nodes::layout::block_width;
 use nodes::layout::damaged;
+use plain::pair::Pair;
 use shrink::delete::delete;
 use std::marker::PhantomData;
 use store::blocks::Store;

@@ -15,7 +15,8 @@ use Rattle.keys.specs.Orders.{Orderly}
 use Rattle.store.specs.Meaning.{Meaning}
 use Rattle.nodes.specs.Places.{Form}
 use Rattle.nodes.specs.Nodes.{Entry, entry-at, entries, upto, Keyed}
-use Rattle.nodes.specs.Finds.{Sought, Ascending, Split-at, Found, key-of, keys-in}
+use Rattle.keys.specs.Sorted.{Ascending}
+use Rattle.nodes.specs.Finds.{Sought, Split-at, Found, key-of, keys-in}
 use Rattle.nodes.proofs.Upto.{length-upto, getD-upto, take-upto, drop-upto}
 
 -- of two places the earlier has the lesser key

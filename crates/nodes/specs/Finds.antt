@@ -1,12 +1,13 @@
 -- The search for a key in a node.
 use mathlib.Core.Path.{_≡_}
-use mathlib.Core.List.{List, [], _∷_, map}
+use mathlib.Core.List.{List, map}
 use Prim.Native.Nat.{ℕ, _-_, _≤_, _<_}
 use lib.ListN.{length, take, drop}
 use Rattle.std.specs.shelf.Lists.{All}
 use Rattle.std.specs.declared.cmp.Ordering.{Ordering}
-use Rattle.std.specs.declared.cmp.Ordering.the-variants.{Less, Greater}
+use Rattle.std.specs.declared.cmp.Ordering.the-variants.{Greater}
 use Rattle.store.specs.Meaning.{Meaning}
+use Rattle.keys.specs.Sorted.{Ascending}
 use Rattle.nodes.specs.Places.{Form}
 use Rattle.nodes.specs.Nodes.{Entry, entry-at, entries}
 
@@ -23,11 +24,6 @@ pub record Sought {K : Type 0} (order : K → K → Ordering) (key : ℕ → K) 
   pub within : r ≤ n
   pub last : 0 < r → order (key (r - 1)) q ≡ Greater → ⊥
   pub next : r < n → order (key r) q ≡ Greater
-
--- each key is less than all that follow it
-abbrev pub Ascending : {K : Type 0} → (K → K → Ordering) → List K → Type 0
-Ascending order [] = Unit {0}
-Ascending order (x ∷ xs) = All (λ y. order x y ≡ Less) xs × Ascending order xs
 
 -- r keys are at most q, and they are the first; all others are above q
 pub record Split-at {K : Type 0} (order : K → K → Ordering) (keys : List K) (q : K) (r : ℕ) : Type 0 where

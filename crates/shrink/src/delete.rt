@@ -5,7 +5,6 @@ ghost use Rattle.balance.specs.Limits.{limit-of, Bounded};
 use crate::merge::mend;
 use ask::find::find;
 use balance::limits::limit;
-use balance::marks::Mark;
 use balance::marks::Marks;
 use balance::update::Updated;
 use balance::update::refuse;
@@ -25,6 +24,7 @@ use nodes::search::keys_up_to;
 use store::blocks::Store;
 use store::fault::Fault;
 use store::fault::Refusal;
+use tree::mark::Mark;
 
 // Corrects the entry of a child that lost a key, and merges the child if it weighs too little.
 fn settle<K: Key, S: Store>(

@@ -4,7 +4,6 @@ ghost use Rattle.std.specs.declared.result.Result.the-variants.{Ok, Err};
 use balance::cut::Halves;
 use balance::cut::halve;
 use balance::limits::limit;
-use balance::marks::Mark;
 use keys::key::Key;
 use nodes::edit::append_all;
 use nodes::edit::move_tail;
@@ -18,6 +17,7 @@ use nodes::read::entry_key;
 use nodes::read::entry_weight;
 use store::blocks::Store;
 use store::fault::Fault;
+use tree::mark::Mark;
 
 // Two neighbours in their parent: the place and smallest key of the left one, both blocks, and what both weigh.
 #[derive(Clone, Copy)]

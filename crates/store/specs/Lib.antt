@@ -2,4 +2,5 @@ pub mod Faults
 pub mod Meaning
 pub mod Calls
 pub mod Events
+pub mod Layers
 pub mod Laws

@@ -1,6 +1,8 @@
 // Why a call was refused, at which block, and how many layers below the index it arose.
 ghost use mathlib.Core.Path.{_≡_};
-ghost use Rattle.store.specs.Faults.{number-of, deeper, own-fault};
+ghost use Rattle.std.specs.declared.option.Option.the-variants.{Some};
+ghost use Rattle.store.specs.Faults.{number-of, word-of, deeper, own-fault, in-words};
+use std::fmt;
 
 // Every refusal there is. Its number is fixed for good.
 #[derive(Clone, Copy, PartialEq, Eq, Debug)]
@@ -35,6 +37,24 @@ impl Refusal {
             Refusal::Misfit => 10,
         }
     }
+
+    // The refusal's word.
+    pub fn word(self) -> &'static str
+        ensures { λ r. ⌜ now r ≡ word-of self ⌝ }
+    {
+        match self {
+            Refusal::Down => "down",
+            Refusal::Damaged => "damaged",
+            Refusal::Present => "present",
+            Refusal::Absent => "absent",
+            Refusal::Full => "full",
+            Refusal::NoRoom => "no room",
+            Refusal::Uneven => "uneven",
+            Refusal::NotGranted => "not granted",
+            Refusal::Outside => "outside",
+            Refusal::Misfit => "misfit",
+        }
+    }
 }
 
 // `block` is 0 where no block is meant. The store right under the index has depth 1.
@@ -66,5 +86,21 @@ impl Fault {
             block: self.block,
             depth: self.depth.saturating_add(1),
         }
+    }
+}
+
+// As `refused with 6 (no room), block 0, 2 layers down`.
+pub impl fmt::Display for Fault as FaultDisplay {
+    ghost shown = { λ f. Some (in-words f) };
+
+    fn fmt<W: fmt::Write>(&self, f: &mut fmt::Formatter<W>) -> fmt::Result {
+        let number = self.refusal.number();
+        let word = self.refusal.word();
+        let block = self.block;
+        let depth = self.depth;
+        write!(
+            f,
+            "refused with {number} ({word}), block {block}, {depth} layers down"
+        )
     }
 }

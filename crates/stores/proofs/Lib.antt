@@ -1,1 +1,2 @@
+pub mod LaidCalls
 pub mod TableCalls

@@ -1,19 +1,17 @@
 -- What the parts of a table store's calls do, by its fields.
 use mathlib.Core.Path.{_≡_}
-use mathlib.Core.Bool.{true, cond}
 use mathlib.Core.List.{List}
-use Prim.Native.Nat.{ℕ, _+_, _-_, _*_, _≤_, _<_, min}
+use Prim.Native.Nat.{ℕ, _+_, _-_, _*_, _≤_, min}
 use denote.Ref.{now}
 use lib.ListN.{length, set}
 use Rattle.std.specs.declared.result.Result.{Result}
 use Rattle.std.specs.declared.result.Result.the-variants.{Ok, Err}
 use Rattle.store.specs.declared.fault.Fault.{Fault}
-use Rattle.store.specs.declared.fault.Refusal.the-variants.{NotGranted, Outside}
-use Rattle.store.specs.Faults.{own-fault}
 use Rattle.store.specs.Meaning.{count-to}
 use Rattle.stores.specs.declared.table.TableStore.{TableStore}
 use Rattle.stores.specs.declared.table.Unfit.{Unfit}
-use Rattle.stores.specs.Table.{in-use, most-blocks, cleared, unmarked}
+use Rattle.stores.specs.Table.{in-use, in-row, most-blocks, cleared, unmarked}
+use Rattle.stores.specs.Located.{Located}
 use Rattle.stores.specs.Opened.{Misfits}
 
 -- t is s with so many grants, and these marks and words
@@ -59,18 +57,6 @@ abbrev pub OverOr : ℕ → List ℕ → List ℕ → Result TableStore Unfit �
 OverOr width marks words (Ok s) = Over width marks words s
 OverOr width marks words (Err u) = Misfits width marks words u
 
--- the word at place p of block b stands at `at`
-pub record Found (s : TableStore) (b p at : ℕ) : Type 0 where
-  pub granted : in-use (s .capacity) (now (s .marks)) b ≡ true
-  pub within : p < s .width
-  pub at-is : at ≡ (b - 1) * s .width + p
-
--- block b is not granted, or the place p is past its width
-pub record Missed (s : TableStore) (b p : ℕ) (f : Fault) : Type 0 where
-  pub fault : f ≡ own-fault (cond (in-use (s .capacity) (now (s .marks)) b) Outside NotGranted) b
-  pub past : in-use (s .capacity) (now (s .marks)) b ≡ true → s .width ≤ p
-
--- where a word stands, or why there is none
-abbrev pub Located : TableStore → ℕ → ℕ → Result ℕ Fault → Type 0
-Located s b p (Ok at) = Found s b p at
-Located s b p (Err f) = Missed s b p f
+-- where a word of s stands, or why there is none
+abbrev pub LocatedIn : TableStore → ℕ → ℕ → Result ℕ Fault → Type 0
+LocatedIn s b p r = Located (in-row (s .width)) (s .width) (s .capacity) (now (s .marks)) b p r

@@ -1,3 +1,3 @@
 // Block stores in plain memory.
-mod runs;
+pub mod runs;
 pub mod table;

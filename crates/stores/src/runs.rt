@@ -78,6 +78,19 @@ pub fn free_mark(marks: &[u8], start: u32, n: u32) -> u32
     n
 }
 
+// A place below n whose mark is 0, the first from start on, else the first of all; or n, if there is none.
+pub fn free_slot(marks: &[u8], start: u32, n: u32) -> u32
+    ensures within { λ r. ⌜ r ≤ n ⌝ }
+    ensures free { λ r. ⌜ (r < n → getD (now (marks .entry)) r 0 ≡ 0) ⌝ }
+    ensures used { λ r. ⌜ ((k : ℕ) → n ≤ r → k < r → getD (now (marks .entry)) k 0 ≡ 0 → ⊥) ⌝ }
+{
+    let slot = free_mark(marks, start, n);
+    if slot < n {
+        return slot;
+    }
+    free_mark(marks, 0, n)
+}
+
 // Writes 0 into n words from start on, as far as there are so many.
 pub fn clear(words: &mut [u64], start: usize, n: usize)
     ensures { λ _. ⌜ now (words .exit) ≡ cleared start n (now (words .entry)) ⌝ }

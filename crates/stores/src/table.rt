@@ -7,12 +7,12 @@ ghost use lib.ListN.{getD};
 ghost use Rattle.store.specs.Meaning.{count-to};
 ghost use Rattle.stores.specs.Table.{in-use};
 ghost use Rattle.stores.specs.Opened.{means, Ready, FreshOr, ReopenedOr, StillMeans};
-ghost use Rattle.stores.specs.Steps.{Put, Granting, Releasing, Unmarking, Recounting, OverOr, Located};
+ghost use Rattle.stores.specs.Steps.{Put, Granting, Releasing, Unmarking, Recounting, OverOr, LocatedIn};
 ghost use Rattle.stores.specs.Laws.Tables.{fits-sound};
 use crate::runs::clear;
 use crate::runs::clear_marks;
 use crate::runs::count_marks;
-use crate::runs::free_mark;
+use crate::runs::free_slot;
 use crate::runs::marked;
 use crate::runs::most;
 use crate::runs::put_mark;
@@ -159,7 +159,7 @@ impl<'a> TableStore<'a> {
 
     // Where a word of a granted block stands in the run.
     fn locate(&self, block: u32, place: u32) -> Result<usize, Fault>
-        ensures { λ r. ⌜ Located (now (self .entry)) block place r ⌝ }
+        ensures { λ r. ⌜ LocatedIn (now (self .entry)) block place r ⌝ }
     {
         if !self.is_granted(block) {
             return Err(Fault::own(Refusal::NotGranted, block));
@@ -188,11 +188,7 @@ impl<'a> TableStore<'a> {
         ensures free { λ r. ⌜ (r < now (self .entry) .capacity → getD (now (now (self .entry) .marks)) r 0 ≡ 0) ⌝ }
         ensures used { λ r. ⌜ ((k : ℕ) → now (self .entry) .capacity ≤ r → k < r → getD (now (now (self .entry) .marks)) k 0 ≡ 0 → ⊥) ⌝ }
     {
-        let slot = free_mark(self.marks, self.rover, self.capacity);
-        if slot < self.capacity {
-            return slot;
-        }
-        free_mark(self.marks, 0, self.capacity)
+        free_slot(self.marks, self.rover, self.capacity)
     }
 
     // Marks a free slot, and clears its words.
@@ -230,7 +226,7 @@ pub impl<'a> Store for TableStore<'a> as TableStoreStore {
 
     ghost ready = { Ready };
 
-    ghost sound = { λ s f. fits-sound _ _ _ _ _ f };
+    ghost sound = { λ s f. fits-sound f };
 
     fn take(&mut self) -> Result<u32, Fault> {
         if self.granted >= self.capacity {

@@ -8,52 +8,72 @@ use native.Mathlib.Numerals.{add-one}
 use lib.ListN.{length, getD, set}
 use Rattle.std.proofs.shelf.Lists.{length-set, getD-set-same, getD-set-other, getD-past, set-past}
 use Rattle.std.proofs.shelf.Tests.{cases-eq, cases-lt}
-use Rattle.stores.specs.Table.{cleared}
+use Rattle.stores.specs.Table.{wiped, cleared}
 
-module _ (s : ℕ) (xs : List ℕ) where
+module _ (at : ℕ → ℕ) (xs : List ℕ) where
   -- nothing cleared yet
-  pub cleared-none : cleared s 0 xs ≡ xs
-  unfolding cleared
-  cleared-none = refl
+  pub wiped-none : wiped at 0 xs ≡ xs
+  unfolding wiped
+  wiped-none = refl
 
-  cleared-suc : (n : ℕ) → cleared s (suc n) xs ≡ set (cleared s n xs) (s + n) 0
-  unfolding cleared
-  cleared-suc n = refl
+  wiped-suc : (n : ℕ) → wiped at (suc n) xs ≡ set (wiped at n xs) (at n) 0
+  unfolding wiped
+  wiped-suc n = refl
 
   -- one place more
-  pub cleared-more : (n : ℕ) → cleared s (n + 1) xs ≡ set (cleared s n xs) (s + n) 0
-  cleared-more n = ap (λ k. cleared s k xs) (add-one n) ∙ cleared-suc n
+  pub wiped-more : (n : ℕ) → wiped at (n + 1) xs ≡ set (wiped at n xs) (at n) 0
+  wiped-more n = ap (λ k. wiped at k xs) (add-one n) ∙ wiped-suc n
 
   -- clearing keeps the length
-  pub cleared-length : (n : ℕ) → length (cleared s n xs) ≡ length xs
-  cleared-length zero = ap length cleared-none
-  cleared-length (suc n) = ap length (cleared-suc n) ∙ length-set (cleared s n xs) (s + n) 0 ∙ cleared-length n
+  pub wiped-length : (n : ℕ) → length (wiped at n xs) ≡ length xs
+  wiped-length zero = ap length wiped-none
+  wiped-length (suc n) = ap length (wiped-suc n) ∙ length-set (wiped at n xs) (at n) 0 ∙ wiped-length n
 
   -- a place that is not cleared
-  pub cleared-other : (n k : ℕ) → (s ≤ k → k < s + n → ⊥) → getD (cleared s n xs) k 0 ≡ getD xs k 0
-  cleared-other zero k h = ap (λ l. getD l k 0) cleared-none
-  cleared-other (suc n) k h =
-      ap (λ l. getD l k 0) (cleared-suc n)
-      ∙ getD-set-other (cleared s n xs) (s + n) k 0 0 (λ q. h (omega arith) (omega arith))
-      ∙ cleared-other n k (λ a b. h a (omega arith))
+  pub wiped-other : (n k : ℕ) → ((i : ℕ) → i < n → k ≡ at i → ⊥) → getD (wiped at n xs) k 0 ≡ getD xs k 0
+  wiped-other zero k h = ap (λ l. getD l k 0) wiped-none
+  wiped-other (suc n) k h =
+      ap (λ l. getD l k 0) (wiped-suc n)
+      ∙ getD-set-other (wiped at n xs) (at n) k 0 0 (h n (omega arith))
+      ∙ wiped-other n k (λ i l. h i (omega arith))
 
   set-zero : (ys : List ℕ) (i : ℕ) → getD (set ys i 0) i 0 ≡ 0
   set-zero ys i =
       ⊎-elim (λ l. getD-set-same ys i 0 0 l) (λ l. ap (λ zs. getD zs i 0) (set-past ys i 0 l) ∙ getD-past ys i 0 l) (cases-lt i (length ys))
 
   -- a place that is cleared
-  pub cleared-here : (n k : ℕ) → s ≤ k → k < s + n → getD (cleared s n xs) k 0 ≡ 0
-  cleared-here zero k l h = absurd (omega arith)
-  cleared-here (suc n) k l h =
-      ap (λ zs. getD zs k 0) (cleared-suc n)
+  pub wiped-here : (n i : ℕ) → i < n → getD (wiped at n xs) (at i) 0 ≡ 0
+  wiped-here zero i l = absurd (omega arith)
+  wiped-here (suc n) i l =
+      ap (λ zs. getD zs (at i) 0) (wiped-suc n)
       ∙ ⊎-elim
-      (λ q. ap (λ i. getD (set (cleared s n xs) (s + n) 0) i 0) q ∙ set-zero (cleared s n xs) (s + n))
-      (λ ne. getD-set-other (cleared s n xs) (s + n) k 0 0 ne ∙ cleared-here n k l (omega arith))
-      (cases-eq k (s + n))
+      (λ q. ap (λ k. getD (set (wiped at n xs) (at n) 0) k 0) q ∙ set-zero (wiped at n xs) (at n))
+      (λ ne. getD-set-other (wiped at n xs) (at n) (at i) 0 0 ne ∙ wiped-here n i (before ne))
+      (cases-eq (at i) (at n))
+    where
+      before : (at i ≡ at n → ⊥) → i < n
+      before ne = ⊎-elim (λ (q : i ≡ n). absurd (ne (ap at q))) (λ (q : i ≡ n → ⊥). omega arith) (cases-eq i n)
+
+-- a run of places
+module _ (s : ℕ) (xs : List ℕ) where
+  pub cleared-none : cleared s 0 xs ≡ xs
+  cleared-none = wiped-none (λ i. s + i) xs
+
+  pub cleared-more : (n : ℕ) → cleared s (n + 1) xs ≡ set (cleared s n xs) (s + n) 0
+  cleared-more n = wiped-more (λ i. s + i) xs n
+
+  pub cleared-length : (n : ℕ) → length (cleared s n xs) ≡ length xs
+  cleared-length n = wiped-length (λ i. s + i) xs n
+
+  -- a place in a run that is cleared
+  pub cleared-here : (n k : ℕ) → s ≤ k → k < s + n → getD (cleared s n xs) k 0 ≡ 0
+  cleared-here n k l h =
+      let q : k ≡ s + (k - s) = omega arith in
+      ap (λ i. getD (cleared s n xs) i 0) q ∙ wiped-here (λ i. s + i) xs n (k - s) (omega arith)
 
   past-on : (m n : ℕ) → m ≤ n → length xs ≤ s + m → cleared s m xs ≡ cleared s n xs → cleared s m xs ≡ cleared s (suc n) xs
   past-on m n h l e =
-      e ∙ sym (cleared-suc n ∙ set-past (cleared s n xs) (s + n) 0 (omega (arith, cleared-length n)))
+      e ∙ sym (wiped-suc (λ i. s + i) xs n ∙ set-past (cleared s n xs) (s + n) 0 (omega (arith, cleared-length n)))
 
   -- past the end there is nothing to clear
   pub cleared-past : (m n : ℕ) → m ≤ n → length xs ≤ s + m → cleared s m xs ≡ cleared s n xs

@@ -1,7 +1,7 @@
 use mathlib.Core.Path.{_∙_, sym}
 use native.Mathlib.Omega.{arith}
 use Rattle.store.specs.Laws.Counts.{count-none}
-use Rattle.stores.specs.Laws.Tables.{mark-on, mark-off}
+use Rattle.stores.specs.Laws.Laid.{mark-on, mark-off}
 use Rattle.stores.proofs.runs.count_marks.Needs as need
 use Rattle.stores.proofs.runs.count_marks.Needs.{then-mark-at-ne0, else-mark-at-ne0}
 

@@ -1,5 +1,5 @@
 use mathlib.Core.Path.{sym}
-use Rattle.stores.specs.Laws.Tables.{used-parts}
+use Rattle.stores.specs.Laws.Laid.{used-parts}
 use Rattle.stores.proofs.table.TableStore.locate.Needs as need
 
 pub sub-result : need.sub-result

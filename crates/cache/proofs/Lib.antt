@@ -1,0 +1,10 @@
+pub mod TableLines
+pub mod Parts
+pub mod Exits
+pub mod Overs
+pub mod Helds
+pub mod Raises
+pub mod Evicts
+pub mod Fetches
+pub mod Services
+pub mod Closings

@@ -1,0 +1,4 @@
+pub mod Lines
+pub mod Cache
+pub mod Steps
+pub mod Laws

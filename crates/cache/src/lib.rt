@@ -1,0 +1,5 @@
+// A write-back cache over any store.
+pub mod cached;
+pub mod line;
+mod moves;
+pub mod table;

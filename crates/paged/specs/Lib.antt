@@ -1,0 +1,4 @@
+pub mod Frames
+pub mod Opened
+pub mod Steps
+pub mod Laws

@@ -1,0 +1,5 @@
+// Piles of stores: made, used and taken apart again.
+pub mod caches;
+pub mod one;
+pub mod pages;
+pub mod quotas;

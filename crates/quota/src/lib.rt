@@ -1,0 +1,2 @@
+// A quota on the blocks of any store.
+pub mod quota;

@@ -1,0 +1,12 @@
+pub mod Lists
+pub mod Units
+pub mod Strains
+pub mod Levels
+pub mod Insert
+pub mod Flat
+pub mod Delete
+pub mod Root
+pub mod Runs
+pub mod Words
+pub mod Counts
+pub mod Queries
