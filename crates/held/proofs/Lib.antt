@@ -1,0 +1,2 @@
+pub mod Feet
+pub mod Frames
