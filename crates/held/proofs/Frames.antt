@@ -12,7 +12,7 @@ use Rattle.nodes.specs.Nodes.{Entry, entries}
 use Rattle.plain.proofs.Alls.{all-append, all-front, all-back}
 use Rattle.tree.specs.Lists.{joined}
 use Rattle.tree.specs.Tree.{weight}
-use Rattle.held.specs.Held.{Kind, item, node, foot, feet, smallest, Right, Whole, times, Owned, Step}
+use Rattle.held.specs.Held.{Kind, item, node, foot, feet, smallest-words, Right, Whole, times, Owned, Step}
 use Rattle.held.proofs.Feet.{times-append, times-three, times-head, step-wider}
 
 module _ {K : Type 0} (κ : Kind K) (ω υ : ℕ → ℕ → ℕ) where
@@ -61,7 +61,7 @@ module _ {K : Type 0} (κ : Kind K) (ω υ : ℕ → ℕ → ℕ) where
         feet-are = n .1;
         right = λ r. (
           r .0 ∙ ap (weight K (suc l)) (sym (n .0)),
-          r .1 ∙ ap (smallest κ (suc l)) (sym (n .0)),
+          r .1 ∙ ap (smallest-words κ (suc l)) (sym (n .0)),
           r .2,
           ap (λ β. β 0) at ∙ r .3,
           subst (λ (β : ℕ → ℕ). β 1 ≤ κ .form .places) (sym at) (r .4),

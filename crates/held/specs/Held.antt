@@ -6,6 +6,8 @@ use Prim.Native.Nat.{ℕ, zero, suc, _+_, _*_, _≤_, _<_}
 use lib.Dec.{eqb}
 use Rattle.std.specs.shelf.Lists.{All}
 use Rattle.std.specs.declared.cmp.Ordering.{Ordering}
+use Rattle.std.specs.declared.option.Option.{Option}
+use Rattle.std.specs.declared.option.Option.the-variants.{None, Some}
 use Rattle.store.specs.Meaning.{Meaning, limit}
 use Rattle.keys.specs.Orders.{Orderly, Packing}
 use Rattle.nodes.specs.Places.{Form, form, breadth}
@@ -13,7 +15,7 @@ use Rattle.nodes.specs.Nodes.{Entry, entries}
 use Rattle.plain.specs.Plain.{Sorted}
 use Rattle.plain.specs.declared.pair.Pair.{Pair}
 use Rattle.tree.specs.Lists.{joined}
-use Rattle.tree.specs.Tree.{Item, weight, pairs, Fit, Kids}
+use Rattle.tree.specs.Tree.{Item, weight, pairs, smallest, Fit, Kids}
 
 -- what the blocks need to know of a kind of key: the form of its nodes, its order and its packing
 pub record Kind (K : Type 0) : Type 0 where
@@ -50,17 +52,20 @@ module _ {K : Type 0} (κ : Kind K) where
   abbrev pub feet : (ℕ → ℕ → ℕ) → ℕ → ℕ → List ℕ
   feet ω l b = b ∷ joined (foot ω l) (entries (κ .form) (ω b))
 
+  -- the words of a key, none where there is none
+  abbrev pub words-of : Option K → List ℕ
+  words-of None = []
+  words-of (Some k) = κ .packed k
+
   -- the words of an item's smallest key
-  abbrev pub smallest : (l : ℕ) → Item K l → List ℕ
-  smallest zero x = κ .packed (x .key)
-  smallest (suc l) [] = []
-  smallest (suc l) (x ∷ xs) = smallest l x
+  abbrev pub smallest-words : (l : ℕ) → Item K l → List ℕ
+  smallest-words l x = words-of (smallest K l x)
 
   -- an entry of a node of level l says what it should of its item: weight, smallest key, block, level and count; and so does each below it
   abbrev pub Right : (ℕ → ℕ → ℕ) → ℕ → Entry → Type 0
   Right ω zero e = Unit {0}
   Right ω (suc l) e =
-      (e .weight ≡ weight K (suc l) (item ω (suc l) e)) × (e .key ≡ smallest (suc l) (item ω (suc l) e)) × (e .child ≤ limit)
+      (e .weight ≡ weight K (suc l) (item ω (suc l) e)) × (e .key ≡ smallest-words (suc l) (item ω (suc l) e)) × (e .child ≤ limit)
       × (ω (e .child) 0 ≡ l) × (ω (e .child) 1 ≤ κ .form .places) × All (Right ω l) (entries (κ .form) (ω (e .child)))
 
   -- block b holds a node of level l
