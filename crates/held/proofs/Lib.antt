@@ -1,2 +1,3 @@
 pub mod Feet
 pub mod Frames
+pub mod Starts
