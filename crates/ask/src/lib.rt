@@ -1,2 +1,4 @@
 // Queries: they read blocks along the way of a key, and write none.
+#![tactic(auto)]
+
 pub mod find;

@@ -1,4 +1,6 @@
 // A write-back cache over any store.
+#![tactic(auto)]
+
 pub mod cached;
 pub mod line;
 mod moves;

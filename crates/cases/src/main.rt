@@ -1,4 +1,6 @@
 // Runs every stored case, and says of each whether the output is the one that was computed independently.
+#![tactic(auto)]
+
 use commands::answers::answer;
 use std::fs;
 

@@ -1,4 +1,6 @@
 // Commands on standard input, answers on standard output: a checkpoint index in 32 blocks.
+#![tactic(auto)]
+
 use commands::answers::{LONGEST_INPUT, answer};
 use std::io::{Read, Write};
 

@@ -1,4 +1,6 @@
 // The command program's work: lines parsed, calls made, answers written as text.
+#![tactic(auto)]
+
 pub mod answers;
 pub mod call;
 pub mod parse;

@@ -1,4 +1,6 @@
 // Insertion: what the way of a key shows, then the pair put in, and every node on the way examined.
+#![tactic(auto)]
+
 pub mod insert;
 pub mod split;
 pub mod survey;

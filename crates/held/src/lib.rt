@@ -1,2 +1,4 @@
 // Blocks that hold a tree: when they do (specs), and what holds of them.
+#![tactic(auto)]
+
 pub mod laws;

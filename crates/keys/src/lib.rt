@@ -1,4 +1,6 @@
 // Key kinds: an order and a packing into words, with the laws that search and tree rest on; the search.
+#![tactic(auto)]
+
 pub mod checkpoint;
 pub mod document;
 #[cfg(test)]

@@ -3,6 +3,8 @@
 //
 // Nothing here knows what a tree is: entries need not ascend, and a child is only a word. Any words at all
 // get an answer; a count above 80 is answered with 'damaged'.
+#![tactic(auto)]
+
 pub mod carry;
 pub mod edit;
 pub mod entry;

@@ -1,4 +1,6 @@
 // Tests of the paged store.
+#![tactic(auto)]
+
 #[cfg(test)]
 mod tests {
     use paged::paged::{Cause, PagedStore};

@@ -1,4 +1,6 @@
 // Piles of stores: made, used and taken apart again.
+#![tactic(auto)]
+
 pub mod caches;
 pub mod one;
 pub mod pages;

@@ -1,2 +1,4 @@
 // A quota on the blocks of any store.
+#![tactic(auto)]
+
 pub mod quota;

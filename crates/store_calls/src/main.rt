@@ -1,4 +1,6 @@
 // Makes the calls on standard input on each store and on piles of layers, and writes what each answers.
+#![tactic(auto)]
+
 mod call;
 mod parse;
 mod piles;

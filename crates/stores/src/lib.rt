@@ -1,3 +1,5 @@
 // Block stores in plain memory.
+#![tactic(auto)]
+
 pub mod runs;
 pub mod table;

@@ -11,7 +11,7 @@ loop-i-preserved g c =
     let i = c.loop-i.i in
     let ws = c.loop-i.line.words in
     let inv = c.loop-i.invariant in
-    let push = c.push-reserved.ensures in (
+    let push = c.push_reserved.ensures in (
       push.len ∙ ap (λ k. k + 1) inv.0,
       inv.1,
       λ r.
@@ -28,11 +28,11 @@ loop-i-preserved g c =
           ),
     )
 
-pub returns-in-err-word : goal.returns-in-err-word
-returns-in-err-word g c =
+pub returns-in_err-word : goal.returns-in_err-word
+returns-in_err-word g c =
     let b = c.args.block in
     let m = g.S.Store.meaning c.args.store.now in
-    rw (at_exit _ _ c.from-residual-in-err-word.ensures)
+    rw (at_exit _ _ c.from_residual-in_err-word.ensures)
     (λ r.
     let s = c.in-ok-stock.ensures.keeps r in
     let same = s.call.same in

@@ -7,11 +7,11 @@ use Rattle.cache.proofs.moves.spill.Goals as goal
 pub loop-i-init : goal.loop-i-init
 loop-i-init g c r = (r, λ _. part_none _ _ c.args.line.now.words.items)
 
-pub returns-in-err-set : goal.returns-in-err-set
-returns-in-err-set g c =
+pub returns-in_err-set : goal.returns-in_err-set
+returns-in_err-set g c =
     let l = c.args.line.now in
     let m = g.S.Store.meaning c.args.store.now in
-    rw (at_exit _ _ c.from-residual.ensures)
+    rw (at_exit _ _ c.from_residual.ensures)
     (λ r.
     let i = c.loop-i.invariant r in
     let e = c.in-err-set.ensures.keeps i.0 in

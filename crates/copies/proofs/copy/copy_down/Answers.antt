@@ -13,16 +13,16 @@ loop-i-preserved g c h =
     let w = c.in-ok-set.ensures.keeps r.ready in
     record { call = λ p. run_down _ _ _ _ _ _ _ _ _ c.loop-i.i _ _ (omega arith) (omega arith) c.requires.downward (i.call p) r.call w.call; ready = w.ready }
 
-pub returns-in-err-word : goal.returns-in-err-word
-returns-in-err-word g c =
-    rw (raised _ _ c.from-residual.ensures) (λ h.
+pub returns-in_err-word : goal.returns-in_err-word
+returns-in_err-word g c =
+    rw (raised _ _ c.from_residual.ensures) (λ h.
     let i = c.loop-i.invariant h in
     let e = c.in-err-word.ensures.keeps i.ready in
     record { call = λ p. run_unread _ _ _ _ _ _ _ _ _ _ _ _ p (omega arith) (i.call p) e.call e.deep; ready = e.ready })
 
-pub returns-in-err-set : goal.returns-in-err-set
-returns-in-err-set g c =
-    rw (raised _ _ c.from-residual-in-err-set.ensures) (λ h.
+pub returns-in_err-set : goal.returns-in_err-set
+returns-in_err-set g c =
+    rw (raised _ _ c.from_residual-in_err-set.ensures) (λ h.
     let i = c.loop-i.invariant h in
     let r = c.in-ok-word.ensures.keeps i.ready in
     let e = c.in-err-set.ensures.keeps r.ready in

@@ -7,4 +7,4 @@ use Rattle.copies.proofs.copy.copy_down.Given as goal
 abbrev pub invariant-loop-i : goal.invariant-loop-i
 invariant-loop-i g l =
     let m = g.S.Store.meaning l.initial.store in
-    g.S.Store.ready l.initial.store → Left (Copyable l.from l.at l.to l.to-at l.len m → g.S.Store.meaning l.store ≡ run m l.from l.at l.to l.to-at (l.to-at + l.i) (l.to-at + l.len)) (g.S.Store.ready l.store)
+    g.S.Store.ready l.initial.store → Left (Copyable l.from l.at l.to l.to_at l.len m → g.S.Store.meaning l.store ≡ run m l.from l.at l.to l.to_at (l.to_at + l.i) (l.to_at + l.len)) (g.S.Store.ready l.store)

@@ -3,17 +3,17 @@ use Rattle.cache.proofs.Exits.{at_exit}
 use Rattle.cache.proofs.Fetches.{then_loadable, loaded_on, falls_on}
 use Rattle.cache.proofs.cached.Cache.bring.Goals as goal
 
-pub returns-in-err-i : goal.returns-in-err-i
-returns-in-err-i g c =
-    rw (at_exit _ _ c.from-residual.ensures)
+pub returns-in_err-i : goal.returns-in_err-i
+returns-in_err-i g c =
+    rw (at_exit _ _ c.from_residual.ensures)
     (record {
       within = tt;
       works = λ r h p. let e = c.in-err-i.ensures.works r h p.up in record { call = e.call; ready = e.ready; held = e.held };
     })
 
-pub returns-in-err-load : goal.returns-in-err-load
-returns-in-err-load g c =
-    rw (at_exit _ _ c.from-residual-in-err-load.ensures)
+pub returns-in_err-load : goal.returns-in_err-load
+returns-in_err-load g c =
+    rw (at_exit _ _ c.from_residual-in_err-load.ensures)
     (record {
       within = tt;
       works = λ r h p.

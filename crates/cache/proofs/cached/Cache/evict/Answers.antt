@@ -8,8 +8,8 @@ use Rattle.cache.proofs.TableLines.{view_at, views_set}
 use Rattle.cache.proofs.Evicts.{goes_whole, evict_ok, evict_err}
 use Rattle.cache.proofs.cached.Cache.evict.Goals as goal
 
-pub returns-in-err-note : goal.returns-in-err-note
-returns-in-err-note g c =
+pub returns-in_err-note : goal.returns-in_err-note
+returns-in_err-note g c =
     let t = c.args.self.now.table in
     let vs = table_views t in
     let i = c.oldest-i.result in
@@ -20,7 +20,7 @@ returns-in-err-note g c =
     let v = view_at t.lines.items i c.at.result.now (omega (arith, t.lines.ok.0, c.oldest-i.ensures.within)) c.at.ensures.value in
     let l : i < length vs = omega (arith, t.lines.ok.0, c.oldest-i.ensures.within) in
     let ve : table_views c.note.new.self ≡ set vs i w = ap (λ x. views x.items) c.note.ensures.lines ∙ views_set t.lines.items i c.empty-out.new.line in
-    rw (at_exit _ _ c.from-residual.ensures)
+    rw (at_exit _ _ c.from_residual.ensures)
     (record {
       within = tt;
       oldest = tt;

@@ -17,8 +17,8 @@ returns-in-Some g c =
       works = λ r k _. record { call = found _ _ _ h k; ready = r; held = k };
     }
 
-pub returns-in-err-note : goal.returns-in-err-note
-returns-in-err-note g c =
+pub returns-in_err-note : goal.returns-in_err-note
+returns-in_err-note g c =
     let s = c.args.self.now in
     let b = c.args.block in
     let place = c.args.place in
@@ -27,7 +27,7 @@ returns-in-err-note g c =
     let vs = table_views s.table in
     let x = c.in-err-note.field-0.0 in
     let ve : table_views c.note.new.self ≡ vs = ap (λ l. views l.items) c.note.ensures.lines in
-    rw (at_exit _ _ c.from-residual.ensures)
+    rw (at_exit _ _ c.from_residual.ensures)
     (record {
       within = tt;
       hit = λ p. absurd (not_missed b place p c.in-default.ensures);

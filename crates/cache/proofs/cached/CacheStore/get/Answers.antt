@@ -8,9 +8,9 @@ use Rattle.cache.proofs.TableLines.{word_at, age_at}
 use Rattle.cache.proofs.Services.{got}
 use Rattle.cache.proofs.cached.CacheStore.get.Goals as goal
 
-pub returns-in-err-i : goal.returns-in-err-i
-returns-in-err-i g c =
-    rw (at_exit _ _ c.from-residual.ensures)
+pub returns-in_err-i : goal.returns-in_err-i
+returns-in_err-i g c =
+    rw (at_exit _ _ c.from_residual.ensures)
     (record {
       keeps = λ r. let e = c.in-err-i.ensures.works r.0 r.1 tt in record { call = e.call.call; deep = e.call.deep; ready = (e.ready, e.held) };
       did = tt;

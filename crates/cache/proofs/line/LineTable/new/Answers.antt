@@ -8,16 +8,16 @@ loop-init c =
     let e = c.in-ok-made.ensures in
     (e.len, subst (λ l. Clear (views l)) (sym e.items) (λ k. refl), e.capacity)
 
-pub push-reserved-requires : goal.push-reserved-requires
-push-reserved-requires c = omega (arith, c.loop.invariant.0, c.loop.invariant.2, c.loop-test.true)
+pub push_reserved-requires : goal.push_reserved-requires
+push_reserved-requires c = omega (arith, c.loop.invariant.0, c.loop.invariant.2, c.loop-test.true)
 
 pub loop-preserved : goal.loop-preserved
 loop-preserved c =
-    let e = c.push-reserved.ensures in
+    let e = c.push_reserved.ensures in
     (e.len ∙ ap (λ k. k + 1) c.loop.invariant.0, subst (λ l. Clear (views l)) (sym e.items) (clear_push _ _ refl c.loop.invariant.1), omega (arith, e.capacity, c.loop.invariant.2))
 
-pub invariant-of-result : goal.invariant-of-result
-invariant-of-result c = (omega (arith, c.loop.invariant.0), (omega (arith, c.loop.invariant.0), tt))
+pub invariant_of-result : goal.invariant_of-result
+invariant_of-result c = (omega (arith, c.loop.invariant.0), (omega (arith, c.loop.invariant.0), tt))
 
 pub returns : goal.returns
 returns c = record { lines = omega (arith, c.loop.invariant.0); unused = record { clear = c.loop.invariant.1; up = refl } }

@@ -4,9 +4,9 @@ use Rattle.stores.proofs.LaidCalls.{missed}
 use Rattle.stores.proofs.TableCalls.{put_word}
 use Rattle.stores.proofs.table.TableStoreStore.set.Goals as goal
 
-pub returns-in-err-at : goal.returns-in-err-at
-returns-in-err-at c =
-    let p = err_from_is_err_and c.from-residual.result c.from-residual.ensures.1 in
+pub returns-in_err-at : goal.returns-in_err-at
+returns-in_err-at c =
+    let p = err_from_is_err_and c.from_residual.result c.from_residual.ensures.1 in
     rw (p.1, p.2) (record { keeps = λ f. missed (fits_lies f) c.in-err-at.ensures f; did = tt })
 
 pub returns : goal.returns
