@@ -18,7 +18,7 @@ const HEAVIEST: u64 = 1_099_511_627_776;
 pub fn weigh<K: Key, S: Store>(store: &mut S, block: u32, level: u32, i: u32) -> Result<u64, Fault>
     requires within { i < 80 }
     ensures bound { elim result [ Ok w ↦ w ≤ 2 ^ 40 | Err f ↦ Unit {0} ] }
-    ensures weighs { Leaves meaning ready (Work (Weighable (form width) block level i) (Weighed (form width) block level i)) store.old result store.new }
+    ensures weighs { Leaves S.meaning S.ready (Work (Weighable (form K.width) block level i) (Weighed (form K.width) block level i)) store.old result store.new }
 {
     if level == 0 {
         return Ok(1);
@@ -39,7 +39,7 @@ pub fn whole_weight<K: Key, S: Store>(
 ) -> Result<u64, Fault>
     requires within { n ≤ 80 }
     ensures bound { elim result [ Ok w ↦ w ≤ 80 * 2 ^ 40 | Err f ↦ Unit {0} ] }
-    ensures sums { Leaves meaning ready (Work (Counted (form width) block level n) (Summed (form width) block level)) store.old result store.new }
+    ensures sums { Leaves S.meaning S.ready (Work (Counted (form K.width) block level n) (Summed (form K.width) block level)) store.old result store.new }
 {
     let mut all: u64 = 0;
     for i in 0..n {
@@ -67,7 +67,7 @@ pub fn split_point<K: Key, S: Store>(
     requires within { n ≤ 80 }
     requires bound { all ≤ 80 * 2 ^ 40 }
     ensures bound { elim result [ Ok c ↦ (c.kept ≤ n) × (c.passed ≤ all) | Err f ↦ Unit {0} ] }
-    ensures cuts { Leaves meaning ready (Work (Totalled (form width) block level n all) (CutAt (form width) block level)) store.old result store.new }
+    ensures cuts { Leaves S.meaning S.ready (Work (Totalled (form K.width) block level n all) (CutAt (form K.width) block level)) store.old result store.new }
 {
     let mut kept: u32 = 0;
     let mut passed: u64 = 0;
@@ -94,7 +94,7 @@ pub struct Halves<K> {
 
 // How the node in a block is to be split.
 pub fn halve<K: Key, S: Store>(store: &mut S, block: u32, level: u32) -> Result<Halves<K>, Fault>
-    ensures { Leaves meaning ready (Work (Heavy (form width) block level) (Halved (form width) unpacked block level)) store.old result store.new }
+    ensures { Leaves S.meaning S.ready (Work (Heavy (form K.width) block level) (Halved (form K.width) K.unpacked block level)) store.old result store.new }
 {
     let n = count(store, block)?;
     let all = whole_weight::<K, S>(store, block, level, n)?;

@@ -28,14 +28,14 @@ impl<S: Store> Cache<S> {
     pub fn new(store: S, table: LineTable) -> Cache<S>
         ensures below { result.store ≡ store }
         ensures table { result.table ≡ table }
-        ensures opened { ready store → Unused table → Opened (meaning result.store) result.table }
+        ensures opened { S.ready store → Unused table → Opened (S.meaning result.store) result.table }
     {
         Cache { store, table }
     }
 
     // Writes every changed line, and yields the store below: where no fault was met, it has every word of the cache.
     pub fn close(self) -> Closed<S>
-        ensures { ready self.store → Held (meaning self.store) self.table.lost (table_views self.table) → Left (Closes (table_views self.table) (meaning self.store) result.fault (meaning result.store)) (ready result.store) }
+        ensures { S.ready self.store → Held (S.meaning self.store) self.table.lost (table_views self.table) → Left (Closes (table_views self.table) (S.meaning self.store) result.fault (S.meaning result.store)) (S.ready result.store) }
     {
         let Cache {
             mut store,
@@ -65,7 +65,7 @@ impl<S: Store> Cache<S> {
     fn evict(&mut self) -> Result<usize, Fault>
         ensures within { IfOk result (λ i. i < vec_len self.new.table.lines) }
         ensures oldest { Oldest (ages self.old.table) result }
-        ensures works { Works meaning ready Up (Evicted result) self.old.store self.old.table self.new.store self.new.table }
+        ensures works { Works S.meaning S.ready Up (Evicted result) self.old.store self.old.table self.new.store self.new.table }
     {
         let i = self.table.oldest();
         let out = empty(&mut self.store, self.table.at(i));
@@ -77,7 +77,7 @@ impl<S: Store> Cache<S> {
     fn load(&mut self, block: u32, i: usize) -> Result<(), Fault>
         requires { i < vec_len self.old.table.lines }
         ensures count { vec_len self.new.table.lines ≡ vec_len self.old.table.lines }
-        ensures works { Works meaning ready (Loadable block i) (Loaded block i result) self.old.store self.old.table self.new.store self.new.table }
+        ensures works { Works S.meaning S.ready (Loadable block i) (Loaded block i result) self.old.store self.old.table self.new.store self.new.table }
     {
         let read = fill(&mut self.store, block, self.table.at(i));
         self.table.note(read)
@@ -86,7 +86,7 @@ impl<S: Store> Cache<S> {
     // Brings a block up into the line that was longest unused.
     fn bring(&mut self, block: u32) -> Result<usize, Fault>
         ensures within { IfOk result (λ i. i < vec_len self.new.table.lines) }
-        ensures works { Works meaning ready (Missing block) (Brought block result) self.old.store self.old.table self.new.store self.new.table }
+        ensures works { Works S.meaning S.ready (Missing block) (Brought block result) self.old.store self.old.table self.new.store self.new.table }
     {
         let i = self.evict()?;
         self.load(block, i)?;
@@ -97,7 +97,7 @@ impl<S: Store> Cache<S> {
     fn fetch(&mut self, block: u32, place: u32) -> Result<usize, Fault>
         ensures within { IfOk result (λ i. i < vec_len self.new.table.lines) }
         ensures hit { Has self.old.table block place → self.new ≡ self.old }
-        ensures works { Works meaning ready Any (Fetched block place result) self.old.store self.old.table self.new.store self.new.table }
+        ensures works { Works S.meaning S.ready Any (Fetched block place result) self.old.store self.old.table self.new.store self.new.table }
     {
         if let Some(i) = self.table.hit(block, place) {
             return Ok(i);
@@ -130,10 +130,10 @@ impl<S: Store> Store for Cache<S> {
     }
 
     fn get(&mut self, block: u32, place: u32) -> Result<u64, Fault>
-        ensures keeps { Serves meaning ready (Get block place) self.old.store self.old.table result self.new.store self.new.table }
+        ensures keeps { Serves S.meaning S.ready (Get block place) self.old.store self.old.table result self.new.store self.new.table }
         ensures did { Unit {0} }
         ensures hit { Has self.old.table block place → self.new.store ≡ self.old.store }
-        ensures used { ready self.old.store → Held (meaning self.old.store) self.old.table.lost (table_views self.old.table) → made result (λ _. Used block self.new.table) }
+        ensures used { S.ready self.old.store → Held (S.meaning self.old.store) self.old.table.lost (table_views self.old.table) → IfOk result (λ _. Used block self.new.table) }
     {
         let i = self.fetch(block, place)?;
         self.table.touch(i);
@@ -141,10 +141,10 @@ impl<S: Store> Store for Cache<S> {
     }
 
     fn set(&mut self, block: u32, place: u32, word: u64) -> Result<(), Fault>
-        ensures keeps { Serves meaning ready (Set block place word) self.old.store self.old.table result self.new.store self.new.table }
+        ensures keeps { Serves S.meaning S.ready (Set block place word) self.old.store self.old.table result self.new.store self.new.table }
         ensures did { Unit {0} }
         ensures hit { Has self.old.table block place → self.new.store ≡ self.old.store }
-        ensures used { ready self.old.store → Held (meaning self.old.store) self.old.table.lost (table_views self.old.table) → made result (λ _. Used block self.new.table) }
+        ensures used { S.ready self.old.store → Held (S.meaning self.old.store) self.old.table.lost (table_views self.old.table) → IfOk result (λ _. Used block self.new.table) }
     {
         let i = self.fetch(block, place)?;
         self.table.touch(i);

@@ -9,7 +9,7 @@ use store::fault::Fault;
 
 // Writes the words of a line into its block below.
 fn spill<S: Store>(store: &mut S, line: &Line) -> Result<(), Fault>
-    ensures { Leaves meaning ready (Spilled (view line.now)) store.old result store.new }
+    ensures { Leaves S.meaning S.ready (Spilled (view line.now)) store.old result store.new }
 {
     for i in 0..line.words.len() as u32 {
         store.set(line.block, i, line.words[i as usize])?;
@@ -19,7 +19,7 @@ fn spill<S: Store>(store: &mut S, line: &Line) -> Result<(), Fault>
 
 // Writes the words of a changed line into its block below, and leaves the line with no block.
 pub(crate) fn empty<S: Store>(store: &mut S, line: &mut Line) -> Result<(), Fault>
-    ensures { Leaves meaning ready (Emptied (view line.old) (view line.new)) store.old result store.new }
+    ensures { Leaves S.meaning S.ready (Emptied (view line.old) (view line.new)) store.old result store.new }
 {
     if line.goes() {
         spill(store, line)?;
@@ -32,7 +32,7 @@ pub(crate) fn empty<S: Store>(store: &mut S, line: &mut Line) -> Result<(), Faul
 
 // Reads a block into a line that has none.
 pub(crate) fn fill<S: Store>(store: &mut S, block: u32, line: &mut Line) -> Result<(), Fault>
-    ensures { Leaves meaning ready (Filled block (view line.old) (view line.new)) store.old result store.new }
+    ensures { Leaves S.meaning S.ready (Filled block (view line.old) (view line.new)) store.old result store.new }
 {
     let width = store.stock()?.width.min(WIDEST);
     line.words.clear();
@@ -47,7 +47,7 @@ pub(crate) fn fill<S: Store>(store: &mut S, block: u32, line: &mut Line) -> Resu
 
 // Asks a store that was lost again. A store that was not lost is left alone.
 pub(crate) fn heard<S: Store>(store: &mut S, lost: bool) -> Result<(), Fault>
-    ensures { Leaves meaning ready (Heard lost) store.old result store.new }
+    ensures { Leaves S.meaning S.ready (Heard lost) store.old result store.new }
 {
     if lost {
         store.stock()?;

@@ -6,7 +6,7 @@ ghost use Rattle.store.specs.Layers.{raised};
 ghost use Rattle.cache.specs.Lines.{view, nth, table_views, ages, Made, Hits, Finds, Noted, set_view, free_view, goes};
 ghost use Rattle.cache.specs.declared.table.Unmade.TheVariants.{NoMemory};
 ghost use Rattle.cache.specs.contracts.line.LineTable.{the_row};
-ghost use Rattle.cache.specs.contracts.line.Line.{the_row as LineRow};
+ghost use Rattle.cache.specs.contracts.line.Line.{the_row as line_row};
 
 use crate::line::{Line, LineTable, WIDEST};
 use std::alloc::{AllocError, Global};
@@ -75,7 +75,7 @@ impl LineTable {
     // One line, to be marked.
     pub(crate) fn at(&mut self, i: usize) -> &mut Line
         requires { i < vec_len self.old.lines }
-        ensures* lent { sem 𝓛 (follows the_row LineRow self.entry.ghost_name result.ghost_name (λ w. record { lines = with_item self.old.lines i w; clock = self.old.clock; lost = self.old.lost; some = self.old.some; few = self.old.few })) }
+        ensures* lent { sem 𝓛 (follows the_row line_row self.entry.ghost_name result.ghost_name (λ w. record { lines = with_item self.old.lines i w; clock = self.old.clock; lost = self.old.lost; some = self.old.some; few = self.old.few })) }
         ensures value { result.now ≡ slice_index_or self.old.lines.items i result.now }
     {
         &mut self.lines[i]

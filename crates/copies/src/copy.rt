@@ -18,7 +18,7 @@ fn copy_up<S: Store>(
 ) -> Result<(), Fault>
     requires room { (at + len < 2 ^ 32) × (to_at + len < 2 ^ 32) }
     requires upward { to_at ≤ at }
-    ensures { Leaves meaning ready (Work (Copyable from at to to_at len) (Pasted from at to to_at len)) store.old result store.new }
+    ensures { Leaves S.meaning S.ready (Work (Copyable from at to to_at len) (Pasted from at to to_at len)) store.old result store.new }
 {
     for i in 0..len {
         let word = store.get(from, at + i)?;
@@ -38,7 +38,7 @@ fn copy_down<S: Store>(
 ) -> Result<(), Fault>
     requires room { (at + len < 2 ^ 32) × (to_at + len < 2 ^ 32) }
     requires downward { at ≤ to_at }
-    ensures { Leaves meaning ready (Work (Copyable from at to to_at len) (Pasted from at to to_at len)) store.old result store.new }
+    ensures { Leaves S.meaning S.ready (Work (Copyable from at to to_at len) (Pasted from at to to_at len)) store.old result store.new }
 {
     for i in (0..len).rev() {
         let word = store.get(from, at + i)?;
@@ -58,7 +58,7 @@ pub fn copy_run<S: Store>(
     len: u32,
 ) -> Result<(), Fault>
     requires room { (at + len < 2 ^ 32) × (to_at + len < 2 ^ 32) }
-    ensures { Leaves meaning ready (Work (Copyable from at to to_at len) (Pasted from at to to_at len)) store.old result store.new }
+    ensures { Leaves S.meaning S.ready (Work (Copyable from at to to_at len) (Pasted from at to to_at len)) store.old result store.new }
 {
     if to_at <= at {
         copy_up(store, from, at, to, to_at, len)

@@ -32,9 +32,9 @@ unturned Equal e = refl
 unturned Greater e = absurd (true≢false (ap is_gt e))
 
 -- an order by a part that std ranks, if keys with equal parts are the same
-pub orderly_by : {K X : Type 0} {R : K → K → Ordering → Type 0} (t : IsTotalOrder R) (f : X → K) → ((x y : X) → R (f x) (f y) ≡ Equal → x ≡ y) → Orderly (λ x y. R (f x) (f y))
-orderly_by t f apart = record {
-  same = λ x. unturned (t.cmp (f x) (f x)) (t.antisymm (f x) (f x));
+pub orderly_by : {K X : Type 0} {R : K → K → Ordering} (t : IsTotalOrder R) (f : X → K) → ((x y : X) → R (f x) (f y) ≡ Equal → x ≡ y) → Orderly (λ x y. R (f x) (f y))
+orderly_by {R = R} t f apart = record {
+  same = λ x. unturned (R (f x) (f x)) (t.antisymm (f x) (f x));
   apart = apart;
   flips = λ x y e. t.antisymm (f y) (f x) ∙ ap ordering_reverse e;
   flops = λ x y e. t.antisymm (f y) (f x) ∙ ap ordering_reverse e;

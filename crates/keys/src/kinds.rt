@@ -1,5 +1,5 @@
 // The shipped kinds of key.
-ghost use Rattle.std.specs.Prelude.{◌≡◌, ◌%◌, ◌^◌, slice_index, refl};
+ghost use Rattle.std.specs.Prelude.{◌≡◌, ℕ, ℤ, ◌%◌, ◌^◌, slice_index, refl};
 ghost use Rattle.std.proofs.Common.{ap, ◌∙◌, arith, rules};
 ghost use Rattle.keys.specs.Checkpoints.{order as checkpoint_order, packed as checkpoint_packed, unpacked as checkpoint_unpacked};
 ghost use Rattle.keys.specs.Documents.{order as document_order, packed as document_packed, unpacked as document_unpacked};
@@ -110,7 +110,7 @@ impl Key for DueStamp {
 
     ghost unpacked = { stamp_unpacked };
 
-    ghost ordered = { orderly_by (then_total (on_total (λ p. p.0) int_cmp_total) (on_total (λ p. p.1) nat_cmp_total)) (λ x. (x.minute, x.serial))
+    ghost ordered = { orderly_by (then_total (on_total (λ (p : ℤ × ℕ). p.0) int_cmp_total) (on_total (λ (p : ℤ × ℕ). p.1) nat_cmp_total)) (λ x. (x.minute, x.serial))
         (λ x y e. let b = both_equal _ _ e in stamps x y (int_rank_equal x.minute y.minute b.0) (rank_equal x.serial y.serial b.1)) };
 
     ghost packing = { record {

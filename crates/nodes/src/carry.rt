@@ -21,7 +21,7 @@ pub fn copy_entries<K: Key, S: Store>(
     n: u32,
 ) -> Result<(), Fault>
     requires within { (i + n ≤ 80) × (j + n ≤ 80) }
-    ensures { Leaves meaning ready (Work (Rooms (form width) from to) (Carried (form width) from i to j n)) store.old result store.new }
+    ensures { Leaves S.meaning S.ready (Work (Rooms (form K.width) from to) (Carried (form K.width) from i to j n)) store.old result store.new }
 {
     copy_run(store, from, weight_at(i), to, weight_at(j), n)?;
     copy_run(

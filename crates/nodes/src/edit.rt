@@ -17,7 +17,7 @@ use store::fault::Fault;
 // Writes a key's words where entry i has them.
 fn put_key<K: Key, S: Store>(store: &mut S, block: u32, i: u32, key: &K) -> Result<(), Fault>
     requires within { i < 80 }
-    ensures { Leaves meaning ready (Work (Room (form width) block) (Edited block (filled (key_at (form width) i) (packed key.now) width))) store.old result store.new }
+    ensures { Leaves S.meaning S.ready (Work (Room (form K.width) block) (Edited block (filled (key_at (form K.width) i) (K.packed key.now) K.width))) store.old result store.new }
 {
     let at = key_at::<K>(i);
     for j in 0..K::words() {
@@ -34,7 +34,7 @@ fn put_entry<K: Key, S: Store>(
     entry: &Entry<K>,
 ) -> Result<(), Fault>
     requires within { i < 80 }
-    ensures { Leaves meaning ready (Work (Room (form width) block) (Edited block (placed (form width) i (entry_of packed entry.now)))) store.old result store.new }
+    ensures { Leaves S.meaning S.ready (Work (Room (form K.width) block) (Edited block (placed (form K.width) i (entry_of K.packed entry.now)))) store.old result store.new }
 {
     store.set(block, weight_at(i), entry.weight)?;
     put_key(store, block, i, &entry.key)?;
@@ -48,7 +48,7 @@ pub fn replace_entry<K: Key, S: Store>(
     i: u32,
     entry: &Entry<K>,
 ) -> Result<(), Fault>
-    ensures { Leaves meaning ready (Work (Has (form width) block i) (Changed (form width) block (replace_at i (entry_of packed entry.now)))) store.old result store.new }
+    ensures { Leaves S.meaning S.ready (Work (Has (form K.width) block i) (Changed (form K.width) block (replace_at i (entry_of K.packed entry.now)))) store.old result store.new }
 {
     let held = count(store, block)?;
     if i >= held {
@@ -64,7 +64,7 @@ pub fn insert_entry<K: Key, S: Store>(
     i: u32,
     entry: &Entry<K>,
 ) -> Result<(), Fault>
-    ensures { Leaves meaning ready (Work (Open (form width) block i) (Changed (form width) block (insert_at i (entry_of packed entry.now)))) store.old result store.new }
+    ensures { Leaves S.meaning S.ready (Work (Open (form K.width) block i) (Changed (form K.width) block (insert_at i (entry_of K.packed entry.now)))) store.old result store.new }
 {
     let n = count(store, block)?;
     if n >= PLACES || i > n {
@@ -77,7 +77,7 @@ pub fn insert_entry<K: Key, S: Store>(
 
 // Takes the entry at place i out.
 pub fn remove_entry<K: Key, S: Store>(store: &mut S, block: u32, i: u32) -> Result<(), Fault>
-    ensures { Leaves meaning ready (Work (Has (form width) block i) (Changed (form width) block (remove_at i))) store.old result store.new }
+    ensures { Leaves S.meaning S.ready (Work (Has (form K.width) block i) (Changed (form K.width) block (remove_at i))) store.old result store.new }
 {
     let n = count(store, block)?;
     if i >= n {
@@ -89,7 +89,7 @@ pub fn remove_entry<K: Key, S: Store>(store: &mut S, block: u32, i: u32) -> Resu
 
 // Puts all entries of block `from` after those of `to`.
 pub fn append_all<K: Key, S: Store>(store: &mut S, from: u32, to: u32) -> Result<(), Fault>
-    ensures { Leaves meaning ready (Work (Joinable (form width) from to) (Joined (form width) from to)) store.old result store.new }
+    ensures { Leaves S.meaning S.ready (Work (Joinable (form K.width) from to) (Joined (form K.width) from to)) store.old result store.new }
 {
     let kept = count(store, to)?;
     let more = count(store, from)?;
@@ -102,7 +102,7 @@ pub fn append_all<K: Key, S: Store>(store: &mut S, from: u32, to: u32) -> Result
 
 // Moves the entries from place m on to block `to`, which becomes a node of the same level.
 pub fn move_tail<K: Key, S: Store>(store: &mut S, from: u32, to: u32, m: u32) -> Result<(), Fault>
-    ensures { Leaves meaning ready (Work (Partable (form width) from to m) (Parted (form width) from to m)) store.old result store.new }
+    ensures { Leaves S.meaning S.ready (Work (Partable (form K.width) from to m) (Parted (form K.width) from to m)) store.old result store.new }
 {
     let level = store.get(from, LEVEL_AT)?;
     let n = count(store, from)?;

@@ -18,7 +18,7 @@ pub struct Header {
 
 // Writes the header into its block.
 pub fn put_header<K: Key, S: Store>(store: &mut S, block: u32, header: &Header) -> Result<(), Fault>
-    ensures { Leaves meaning ready (Work (Headroom block) (Edited block (filled 0 (header_words width header.now) 4))) store.old result store.new }
+    ensures { Leaves S.meaning S.ready (Work (Headroom block) (Edited block (filled 0 (header_words K.width header.now) 4))) store.old result store.new }
 {
     store.set(block, 0, K::words() as u64)?;
     store.set(block, 1, header.root as u64)?;

@@ -18,7 +18,7 @@ pub const COUNT_AT: u32 = 1;
 
 // How many words a block must have for a node of this kind of key.
 pub fn block_width<K: Key>() -> u32
-    ensures { result ≡ breadth (form width) }
+    ensures { result ≡ breadth (form K.width) }
 {
     162 + 80 * K::words()
 }
@@ -34,7 +34,7 @@ pub fn weight_at(i: u32) -> u32
 // Where the key of entry i begins.
 pub fn key_at<K: Key>(i: u32) -> u32
     requires { i ≤ 80 }
-    ensures { result ≡ key_at (form width) i }
+    ensures { result ≡ key_at (form K.width) i }
 {
     82 + K::words() * i
 }
@@ -42,7 +42,7 @@ pub fn key_at<K: Key>(i: u32) -> u32
 // Where the child or handle of entry i stands.
 pub fn child_at<K: Key>(i: u32) -> u32
     requires { i ≤ 80 }
-    ensures { result ≡ child_at (form width) i }
+    ensures { result ≡ child_at (form K.width) i }
 {
     82 + 80 * K::words() + i
 }

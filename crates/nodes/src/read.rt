@@ -14,8 +14,8 @@ use store::fault::Fault;
 // How many entries the node has; 'damaged' where the word says more than 80.
 pub fn count<S: Store>(store: &mut S, block: u32) -> Result<u32, Fault>
     ensures within { elim result [ Ok n ↦ n ≤ 80 | Err f ↦ Unit {0} ] }
-    ensures counts { Leaves meaning ready (Work (Countable block) (Read block 1)) store.old result store.new }
-    ensures refuses { Leaves meaning ready (Fails (Overfull block) (Damage block)) store.old result store.new }
+    ensures counts { Leaves S.meaning S.ready (Work (Countable block) (Read block 1)) store.old result store.new }
+    ensures refuses { Leaves S.meaning S.ready (Fails (Overfull block) (Damage block)) store.old result store.new }
 {
     let n = store.get(block, COUNT_AT)?;
     if n > PLACES as u64 {
@@ -27,7 +27,7 @@ pub fn count<S: Store>(store: &mut S, block: u32) -> Result<u32, Fault>
 // The weight of entry i.
 pub fn entry_weight<S: Store>(store: &mut S, block: u32, i: u32) -> Result<u64, Fault>
     requires { i < 80 }
-    ensures { Leaves meaning ready (Work (Word block (weight_at i)) (Weighs block i)) store.old result store.new }
+    ensures { Leaves S.meaning S.ready (Work (Word block (weight_at i)) (Weighs block i)) store.old result store.new }
 {
     store.get(block, weight_at(i))
 }
@@ -35,7 +35,7 @@ pub fn entry_weight<S: Store>(store: &mut S, block: u32, i: u32) -> Result<u64, 
 // The key of entry i.
 pub fn entry_key<K: Key, S: Store>(store: &mut S, block: u32, i: u32) -> Result<K, Fault>
     requires { i < 80 }
-    ensures { Leaves meaning ready (Work (Room (form width) block) (Keyed (form width) unpacked block i)) store.old result store.new }
+    ensures { Leaves S.meaning S.ready (Work (Room (form K.width) block) (Keyed (form K.width) K.unpacked block i)) store.old result store.new }
 {
     let mut words = [0u64; 4];
     let width = K::words();
@@ -48,7 +48,7 @@ pub fn entry_key<K: Key, S: Store>(store: &mut S, block: u32, i: u32) -> Result<
 // The child or handle of entry i.
 pub fn entry_child<K: Key, S: Store>(store: &mut S, block: u32, i: u32) -> Result<u64, Fault>
     requires { i < 80 }
-    ensures { Leaves meaning ready (Work (Room (form width) block) (Leads (form width) block i)) store.old result store.new }
+    ensures { Leaves S.meaning S.ready (Work (Room (form K.width) block) (Leads (form K.width) block i)) store.old result store.new }
 {
     store.get(block, child_at::<K>(i))
 }
@@ -56,7 +56,7 @@ pub fn entry_child<K: Key, S: Store>(store: &mut S, block: u32, i: u32) -> Resul
 // The block of the child of entry i; 0 where the word is no block number.
 pub fn child_block<K: Key, S: Store>(store: &mut S, block: u32, i: u32) -> Result<u32, Fault>
     requires { i < 80 }
-    ensures { Leaves meaning ready (Work (Room (form width) block) (LeadsTo (form width) block i)) store.old result store.new }
+    ensures { Leaves S.meaning S.ready (Work (Room (form K.width) block) (LeadsTo (form K.width) block i)) store.old result store.new }
 {
     Ok(block_of(entry_child::<K, S>(store, block, i)?))
 }

@@ -15,8 +15,8 @@ use store::fault::Fault;
 // How many of the node's keys are at most `q`.
 pub fn keys_up_to<K: Key, S: Store>(store: &mut S, block: u32, q: &K) -> Result<u32, Fault>
     ensures within { elim result [ Ok n ↦ n ≤ 80 | Err f ↦ Unit {0} ] }
-    ensures finds { Leaves meaning ready (Work (Node (form width) block) (Found (form width) order unpacked block q.now)) store.old result store.new }
-    ensures refuses { Leaves meaning ready (Fails (Overfull block) (Damage block)) store.old result store.new }
+    ensures finds { Leaves S.meaning S.ready (Work (Node (form K.width) block) (Found (form K.width) K.order K.unpacked block q.now)) store.old result store.new }
+    ensures refuses { Leaves S.meaning S.ready (Fails (Overfull block) (Damage block)) store.old result store.new }
 {
     let mut low = 0;
     let mut high = count(store, block)?;

@@ -97,7 +97,7 @@ pub fn over_table<'a>(
 
 // Uses one block of a store through a cache and a quota of p blocks above it. A fault met in closing is the answer.
 pub fn through_cache<S: Store>(store: S, table: LineTable, p: u64, word: u64) -> Used<S>
-    ensures { ready store → Unused table → Left (Use (quota_shape p (cached_shape (meaning store).shape)) word (meaning store) result.answer (meaning result.store)) (ready result.store) }
+    ensures { S.ready store → Unused table → Left (Use (quota_shape p (cached_shape (S.meaning store).shape)) word (S.meaning store) result.answer (S.meaning result.store)) (S.ready result.store) }
 {
     let Used { answer, store } = use_one(Quota::new(Cache::new(store, table), p), word);
     let Closed { store, fault } = store.end().close();

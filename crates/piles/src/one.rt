@@ -13,7 +13,7 @@ pub struct Used<S> {
 
 // Takes a block, writes a word at its first place, and reads it there.
 pub fn use_one<S: Store>(mut store: S, word: u64) -> Used<S>
-    ensures { ready store → Left (Use (meaning store).shape word (meaning store) result.answer (meaning result.store)) (ready result.store) }
+    ensures { S.ready store → Left (Use (S.meaning store).shape word (S.meaning store) result.answer (S.meaning result.store)) (S.ready result.store) }
 {
     match store.take() {
         Err(fault) => Used {

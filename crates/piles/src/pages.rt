@@ -19,7 +19,7 @@ use store::fault::Fault;
 
 // Uses one block of a store through a cache. A fault met in closing is the answer.
 pub fn cached_one<S: Store>(store: S, table: LineTable, word: u64) -> Used<S>
-    ensures { ready store → Unused table → Left (Use (cached_shape (meaning store).shape) word (meaning store) result.answer (meaning result.store)) (ready result.store) }
+    ensures { S.ready store → Unused table → Left (Use (cached_shape (S.meaning store).shape) word (S.meaning store) result.answer (S.meaning result.store)) (S.ready result.store) }
 {
     let Used { answer, store } = use_one(Cache::new(store, table), word);
     let Closed { store, fault } = store.close();
@@ -34,7 +34,7 @@ pub fn cached_one<S: Store>(store: S, table: LineTable, word: u64) -> Used<S>
 
 // Uses one block of a store through a quota of q blocks and a cache above it.
 pub fn cached_quota<S: Store>(store: S, table: LineTable, q: u64, word: u64) -> Used<S>
-    ensures { ready store → Unused table → Left (Use (cached_shape (quota_shape q (meaning store).shape)) word (meaning store) result.answer (meaning result.store)) (ready result.store) }
+    ensures { S.ready store → Unused table → Left (Use (cached_shape (quota_shape q (S.meaning store).shape)) word (S.meaning store) result.answer (S.meaning result.store)) (S.ready result.store) }
 {
     let Used { answer, store } = cached_one(Quota::new(store, q), table, word);
     Used {

@@ -51,7 +51,7 @@ pub fn two_quotas<'a>(
 
 // Uses one block of a store through a quota of q blocks and one of p above it.
 pub fn under_two<S: Store>(store: S, p: u64, q: u64, word: u64) -> Used<S>
-    ensures { ready store → Left (Use (quota_shape p (quota_shape q (meaning store).shape)) word (meaning store) result.answer (meaning result.store)) (ready result.store) }
+    ensures { S.ready store → Left (Use (quota_shape p (quota_shape q (S.meaning store).shape)) word (S.meaning store) result.answer (S.meaning result.store)) (S.ready result.store) }
 {
     let Used { answer, store } = use_one(Quota::new(Quota::new(store, q), p), word);
     Used {

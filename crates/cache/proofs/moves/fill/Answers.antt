@@ -16,14 +16,14 @@ loop-i-preserved g c =
       inv.1,
       λ r.
           let q = inv.2 r in
-          let e = c.in-ok-word.ensures.keeps q.0 in (
+          let e = c.in_ok-word.ensures.keeps q.0 in (
             e.ready,
             λ t w.
                 let h = q.1 t w in
                 let β = (g.S.Store.meaning c.stock.new.self).words c.args.block in (
                   e.call.same ∙ h.0,
                   subst (λ xs. Fronts (i + 1) xs β) (sym push.items)
-                      (fronts_more i ws.items β c.in-ok-word.word (sym ws.ok.0 ∙ inv.0) (e.call.value ∙ ap (λ k. k.words c.args.block i) h.0) h.1),
+                      (fronts_more i ws.items β c.in_ok-word.word (sym ws.ok.0 ∙ inv.0) (e.call.value ∙ ap (λ k. k.words c.args.block i) h.0) h.1),
                 ),
           ),
     )
@@ -34,10 +34,10 @@ returns-in_err-word g c =
     let m = g.S.Store.meaning c.args.store.now in
     rw (at_exit _ _ c.from_residual-in_err-word.ensures)
     (λ r.
-    let s = c.in-ok-stock.ensures.keeps r in
+    let s = c.in_ok-stock.ensures.keeps r in
     let same = s.call.same in
     let q = c.loop-i.invariant.2 s.ready in
-    let e = c.in-err-word.ensures.keeps q.0 in
+    let e = c.in_err-word.ensures.keeps q.0 in
     record {
       call = λ t z.
           let h = q.1 (ap (λ k. k.granted b) same ∙ t) (omega (arith, c.min-width.ensures, s.call.width, ap (λ k. k.shape.width) same)) in
@@ -52,7 +52,7 @@ pub returns : goal.returns
 returns g c r =
     let b = c.args.block in
     let m = g.S.Store.meaning c.args.store.now in
-    let s = c.in-ok-stock.ensures.keeps r in
+    let s = c.in_ok-stock.ensures.keeps r in
     let law = g.S.Store.sound c.args.store.now r in
     let same = s.call.same in
     let q = c.loop-i.invariant.2 s.ready in

@@ -14,7 +14,7 @@ returns-in_err-set g c =
     rw (at_exit _ _ c.from_residual.ensures)
     (λ r.
     let i = c.loop-i.invariant r in
-    let e = c.in-err-set.ensures.keeps i.0 in
+    let e = c.in_err-set.ensures.keeps i.0 in
     record {
       call = λ w. part_exit m l.words.items w.granted (omega (arith, w.wide, l.words.ok.0, c.len-i-end.ensures, c.loop-i-test.true)) (i.1 w) e.call e.deep;
       ready = e.ready;
@@ -25,7 +25,7 @@ loop-i-preserved g c r =
     let l = c.args.line.now in
     let m = g.S.Store.meaning c.args.store.now in
     let i = c.loop-i.invariant r in
-    let e = c.in-ok-set.ensures.keeps i.0 in
+    let e = c.in_ok-set.ensures.keeps i.0 in
     (e.ready, λ w. part_more m l.words.items (i.1 w) (get_or_read l.words.items c.loop-i.i c.index.result.now (omega (arith, l.words.ok.0, c.len-i-end.ensures, c.loop-i-test.true)) c.index.ensures 0) e.call)
 
 pub returns : goal.returns

@@ -8,7 +8,7 @@ returns-in_err-i g c =
     rw (at_exit _ _ c.from_residual.ensures)
     (record {
       within = tt;
-      works = λ r h p. let e = c.in-err-i.ensures.works r h p.up in record { call = e.call; ready = e.ready; held = e.held };
+      works = λ r h p. let e = c.in_err-i.ensures.works r h p.up in record { call = e.call; ready = e.ready; held = e.held };
     })
 
 pub returns-in_err-load : goal.returns-in_err-load
@@ -18,19 +18,19 @@ returns-in_err-load g c =
       within = tt;
       works = λ r h p.
           let law = g.S.Store.sound c.args.self.now.store r in
-          let e = c.in-ok-i.ensures.works r h p.up in
-          let q = then_loadable c.args.block c.in-ok-i.i law.none_at_zero p e.call in
-          let d = c.in-err-load.ensures.works e.ready e.held q in
+          let e = c.in_ok-i.ensures.works r h p.up in
+          let q = then_loadable c.args.block c.in_ok-i.i law.none_at_zero p e.call in
+          let d = c.in_err-load.ensures.works e.ready e.held q in
           record { call = falls_on e.call.same d.call; ready = d.ready; held = d.held };
     })
 
 pub returns : goal.returns
 returns g c = record {
-  within = omega (arith, c.in-ok-i.ensures.within, c.load.ensures.count);
+  within = omega (arith, c.in_ok-i.ensures.within, c.load.ensures.count);
   works = λ r h p.
       let law = g.S.Store.sound c.args.self.now.store r in
-      let e = c.in-ok-i.ensures.works r h p.up in
-      let q = then_loadable c.args.block c.in-ok-i.i law.none_at_zero p e.call in
-      let d = c.in-ok-load.ensures.works e.ready e.held q in
+      let e = c.in_ok-i.ensures.works r h p.up in
+      let q = then_loadable c.args.block c.in_ok-i.i law.none_at_zero p e.call in
+      let d = c.in_ok-load.ensures.works e.ready e.held q in
       record { call = loaded_on e.call.same d.call; ready = d.ready; held = d.held };
 }

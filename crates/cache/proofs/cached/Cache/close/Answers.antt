@@ -40,7 +40,7 @@ returns-in-Err-empty g c =
     let v = view_at t.lines.items i c.at.result.now (omega (arith, t.lines.ok.0, c.loop-i.invariant.0, c.loop-i-test.true, c.len-i-end.ensures)) c.at.ensures.value in
     rw c.deeper-in-Err-empty.ensures
     (λ r h.
-    let first = c.in-default.ensures r in
+    let first = c.in_default.ensures r in
     let same = first.call.0 in
     let q = c.loop-i.invariant.2 first.ready (subst (λ x. Held x lost vs) (sym same) h) (heard_up h first.call.1) in
     let out = c.in-Err-empty.ensures q.0 in
@@ -55,7 +55,7 @@ returns g c r h =
     let lost = c.args.self.table.lost in
     let vs = table_views c.args.self.table in
     let e = length-map t.lines.items view in
-    let first = c.in-default.ensures r in
+    let first = c.in_default.ensures r in
     let same = first.call.0 in
     let q = c.loop-i.invariant.2 first.ready (subst (λ x. Held x lost vs) (sym same) h) (heard_up h first.call.1) in
     let law = g.S.Store.sound c.loop-i.store q.0 in

@@ -28,9 +28,9 @@ returns-in_err-note g c =
           let law = g.S.Store.sound c.args.self.now.store r in
           let out = c.empty-out.ensures r in
           let d = subst (λ x. Empty x w m c.empty-out.result n) (sym v) (out.call (goes_whole i v h)) in
-          let all = evict_err i w l law.none_at_zero up h c.empty-out.result c.in-err-note.ensures.answer d c.note.ensures.lost in
+          let all = evict_err i w l law.none_at_zero up h c.empty-out.result c.in_err-note.ensures.answer d c.note.ensures.lost in
           record {
-            call = subst (λ us. Falls c.in-err-note.field-0.0 (cached vs m) (cached us n)) (sym ve) all.0;
+            call = subst (λ us. Falls c.in_err-note.field-0.0 (cached vs m) (cached us n)) (sym ve) all.0;
             ready = out.ready;
             held = subst (Held n c.note.new.self.lost) (sym ve) all.1;
           };
@@ -56,7 +56,7 @@ returns g c =
           let law = g.S.Store.sound c.args.self.now.store r in
           let out = c.empty-out.ensures r in
           let d = subst (λ x. Empty x w m c.empty-out.result n) (sym v) (out.call (goes_whole i v h)) in
-          let all = evict_ok i w l law.none_at_zero up h c.empty-out.result c.in-ok-note.ensures.answer d c.note.ensures.lost in
+          let all = evict_ok i w l law.none_at_zero up h c.empty-out.result c.in_ok-note.ensures.answer d c.note.ensures.lost in
           record {
             call = subst (EvictDone i m vs n) (sym ve) all.0;
             ready = out.ready;

@@ -25,15 +25,15 @@ returns-in_err-note g c =
     let m = g.S.Store.meaning s.store in
     let n = g.S.Store.meaning c.get-first.new.self in
     let vs = table_views s.table in
-    let x = c.in-err-note.field-0.0 in
+    let x = c.in_err-note.field-0.0 in
     let ve : table_views c.note.new.self ≡ vs = ap (λ l. views l.items) c.note.ensures.lines in
     rw (at_exit _ _ c.from_residual.ensures)
     (record {
       within = tt;
-      hit = λ p. absurd (not_missed b place p c.in-default.ensures);
+      hit = λ p. absurd (not_missed b place p c.in_default.ensures);
       works = λ r h _.
           let e = c.get-first.ensures.keeps r in
-          let all = first_err b place c.get-first.result e.call c.note.ensures.lost h e.deep c.in-err-note.ensures.answer in
+          let all = first_err b place c.get-first.result e.call c.note.ensures.lost h e.deep c.in_err-note.ensures.answer in
           record {
             call = subst (λ us. FetchFails b place x m vs n us) (sym ve) all.0;
             ready = e.ready;
@@ -53,11 +53,11 @@ returns g c =
     let ve : table_views c.note.new.self ≡ vs = ap (λ l. views l.items) c.note.ensures.lines in
     record {
       within = c.bring.ensures.within;
-      hit = λ p. absurd (not_missed b place p c.in-default.ensures);
+      hit = λ p. absurd (not_missed b place p c.in_default.ensures);
       works = λ r h _.
           let law = g.S.Store.sound s.store r in
           let e = c.get-first.ensures.keeps r in
-          let f = first_ok b place c.get-first.result law.none_at_zero c.in-ok-note.ensures.answer e.call c.note.ensures.lost h c.in-default.ensures in
+          let f = first_ok b place c.get-first.result law.none_at_zero c.in_ok-note.ensures.answer e.call c.note.ensures.lost h c.in_default.ensures in
           let d = c.bring.ensures.works e.ready (subst (Held n c.note.new.self.lost) (sym ve) f.held) (subst (Missing b n) (sym ve) f.missing) in
           let law₂ = g.S.Store.sound c.get-first.new.self e.ready in
           record {

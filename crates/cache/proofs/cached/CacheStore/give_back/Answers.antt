@@ -15,14 +15,14 @@ returns-in_err-note g c =
     let m = g.S.Store.meaning s.store in
     let n = g.S.Store.meaning c.give_back-r.new.self in
     let vs = table_views s.table in
-    let x = c.in-err-note.field-0.0 in
+    let x = c.in_err-note.field-0.0 in
     let ve : table_views c.note.new.self ≡ vs = ap (λ l. views l.items) c.note.ensures.lines in
     rw (at_exit _ _ c.from_residual.ensures)
     (record {
       keeps = λ r.
           let law = g.S.Store.sound s.store r.0 in
           let e = c.give_back-r.ensures.keeps r.0 in
-          let all = give_err law.none_at_zero r.1 b c.give_back-r.result c.in-err-note.ensures.answer e.call e.deep c.note.ensures.lost in
+          let all = give_err law.none_at_zero r.1 b c.give_back-r.result c.in_err-note.ensures.answer e.call e.deep c.note.ensures.lost in
           record {
             call = subst (λ us. GiveFails b x.refusal x.block (cached vs m) (cached us n)) (sym ve) all.0;
             deep = all.1;
@@ -51,7 +51,7 @@ returns-in-Some g c =
       keeps = λ r.
           let law = g.S.Store.sound s.store r.0 in
           let e = c.give_back-r.ensures.keeps r.0 in
-          let all = gave_line law.none_at_zero r.1 i (free_view (nth vs i)) l refl b c.give_back-r.result c.in-ok-note.ensures.answer e.call c.note.ensures.lost at_b in
+          let all = gave_line law.none_at_zero r.1 i (free_view (nth vs i)) l refl b c.give_back-r.result c.in_ok-note.ensures.answer e.call c.note.ensures.lost at_b in
           record {
             call = subst (λ us. GiveDone (cached vs m) b (cached us n)) (sym ue) all.0;
             deep = tt;
@@ -68,12 +68,12 @@ returns-in_default g c =
     let n = g.S.Store.meaning c.give_back-r.new.self in
     let vs = table_views s.table in
     let ve : table_views c.note.new.self ≡ vs = ap (λ l. views l.items) c.note.ensures.lines in
-    let none = subst (λ us. (b ≡ 0 → ⊥) → (k : ℕ) → (nth us k).block ≡ b → ⊥) ve c.in-default.ensures in
+    let none = subst (λ us. (b ≡ 0 → ⊥) → (k : ℕ) → (nth us k).block ≡ b → ⊥) ve c.in_default.ensures in
     record {
       keeps = λ r.
           let law = g.S.Store.sound s.store r.0 in
           let e = c.give_back-r.ensures.keeps r.0 in
-          let all = gave law.none_at_zero r.1 b c.give_back-r.result c.in-ok-note.ensures.answer e.call c.note.ensures.lost none in
+          let all = gave law.none_at_zero r.1 b c.give_back-r.result c.in_ok-note.ensures.answer e.call c.note.ensures.lost none in
           record {
             call = subst (λ us. GiveDone (cached vs m) b (cached us n)) (sym ve) all.0;
             deep = tt;

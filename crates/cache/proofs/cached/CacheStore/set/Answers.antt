@@ -13,19 +13,19 @@ pub returns-in_err-i : goal.returns-in_err-i
 returns-in_err-i g c =
     rw (at_exit _ _ c.from_residual.ensures)
     (record {
-      keeps = λ r. let e = c.in-err-i.ensures.works r.0 r.1 tt in record { call = e.call.call; deep = e.call.deep; ready = (e.ready, e.held) };
+      keeps = λ r. let e = c.in_err-i.ensures.works r.0 r.1 tt in record { call = e.call.call; deep = e.call.deep; ready = (e.ready, e.held) };
       did = tt;
       hit = λ p. ap (λ s. s.store) (c.fetch.ensures.hit p);
       used = λ r h. tt;
     })
 
 pub write-requires : goal.write-requires
-write-requires g c = omega (arith, c.in-ok-i.ensures.within, c.touch.ensures.count)
+write-requires g c = omega (arith, c.in_ok-i.ensures.within, c.touch.ensures.count)
 
 pub returns : goal.returns
 returns g c =
     let s = c.args.self.now in
-    let i = c.in-ok-i.i in
+    let i = c.in_ok-i.i in
     let b = c.args.block in
     let place = c.args.place in
     let word = c.args.word in
@@ -38,7 +38,7 @@ returns g c =
     let lost = c.write.ensures.lost ∙ c.touch.ensures.lost in
     record {
       keeps = λ r.
-          let e = c.in-ok-i.ensures.works r.0 r.1 tt in
+          let e = c.in_ok-i.ensures.works r.0 r.1 tt in
           let law = g.S.Store.sound c.fetch.new.self.store e.ready in
           let d = wrote law.none_at_zero e.call e.held word in
           record {
@@ -49,12 +49,12 @@ returns g c =
       did = tt;
       hit = λ p. ap (λ s. s.store) (c.fetch.ensures.hit p);
       used = λ r h.
-          let e = c.in-ok-i.ensures.works r h tt in
+          let e = c.in_ok-i.ensures.works r h tt in
           let l = within ws i (λ q. e.call.some (sym e.call.block ∙ q)) in (
             i,
             (
               ap (λ us. (nth us i).block) ue ∙ ap (λ v. v.block) (nth_same ws i (set_view (nth ws i) place word) l) ∙ e.call.block,
-              age_at (ages t) i c.write.new.self.clock (omega (arith, t.lines.ok.0, length-map t.lines.items (λ l. l.used), c.in-ok-i.ensures.within))
+              age_at (ages t) i c.write.new.self.clock (omega (arith, t.lines.ok.0, length-map t.lines.items (λ l. l.used), c.in_ok-i.ensures.within))
                   (c.write.ensures.ages ∙ c.touch.ensures.clock ∙ ap (set (ages t) i) (sym c.write.ensures.clock)),
             ),
           );

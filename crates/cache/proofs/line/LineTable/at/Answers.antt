@@ -6,4 +6,4 @@ use Rattle.cache.proofs.line.LineTable.at.Goals as goal
 pub returns : goal.returns
 returns c =
     let t = c.args.self.now in
-    ((refl, λ w. same_table record { lines = with_item t.lines c.args.i w; clock = t.clock; lost = t.lost; some = t.some; few = t.few } _ _), c.index_mut.ensures.value)
+    ((refl, λ w. same_table record { lines = with_item t.lines c.args.i w; clock = t.clock; lost = t.lost; some = t.some; few = t.few } _ _), record { lent = tt; value = c.index_mut.ensures.value })
