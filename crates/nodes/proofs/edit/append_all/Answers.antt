@@ -9,17 +9,17 @@ use Rattle.nodes.proofs.Rooms.{room_edit, room_place, rooms_same, countable, cou
 use Rattle.nodes.proofs.Lists.{append_holds}
 use Rattle.nodes.proofs.edit.append_all.Goals as goal
 
-pub returns-in-err-kept : goal.returns-in-err-kept
-returns-in-err-kept g c =
-    rw (raised _ _ c.from-residual.ensures) (λ h.
-    let e = c.in-err-kept.ensures.counts h in
+pub returns-in_err-kept : goal.returns-in_err-kept
+returns-in_err-kept g c =
+    rw (raised _ _ c.from_residual.ensures) (λ h.
+    let e = c.in_err-kept.ensures.counts h in
     record { call = λ p. e.call (countable g.K.Key.width _ _ (omega (arith, p.fits)) p.rooms.other); ready = e.ready })
 
-pub returns-in-err-more : goal.returns-in-err-more
-returns-in-err-more g c =
-    rw (raised _ _ c.from-residual-in-err-more.ensures) (λ h.
-    let a = c.in-ok-kept.ensures.counts h in
-    let e = c.in-err-more.ensures.counts a.ready in
+pub returns-in_err-more : goal.returns-in_err-more
+returns-in_err-more g c =
+    rw (raised _ _ c.from_residual-in_err-more.ensures) (λ h.
+    let a = c.in_ok-kept.ensures.counts h in
+    let e = c.in_err-more.ensures.counts a.ready in
     record {
       call = λ p.
           let one = a.call (countable g.K.Key.width _ _ (omega (arith, p.fits)) p.rooms.other) in
@@ -27,12 +27,12 @@ returns-in-err-more g c =
       ready = e.ready;
     })
 
-pub returns-in-err-copy-entries : goal.returns-in-err-copy-entries
-returns-in-err-copy-entries g c =
-    rw (raised _ _ c.from-residual-in-err-copy-entries.ensures) (λ h.
-    let a = c.in-ok-kept.ensures.counts h in
-    let b = c.in-ok-more.ensures.counts a.ready in
-    let e = c.in-err-copy-entries.ensures b.ready in
+pub returns-in_err-copy_entries : goal.returns-in_err-copy_entries
+returns-in_err-copy_entries g c =
+    rw (raised _ _ c.from_residual-in_err-copy_entries.ensures) (λ h.
+    let a = c.in_ok-kept.ensures.counts h in
+    let b = c.in_ok-more.ensures.counts a.ready in
+    let e = c.in_err-copy_entries.ensures b.ready in
     record {
       call = λ p.
           let one = a.call (countable g.K.Key.width _ _ (omega (arith, p.fits)) p.rooms.other) in
@@ -47,12 +47,12 @@ returns g c h =
     let φ = form k in
     let from = c.args.from in
     let to = c.args.to in
-    let kept = c.in-ok-kept.kept in
-    let more = c.in-ok-more.more in
+    let kept = c.in_ok-kept.kept in
+    let more = c.in_ok-more.more in
     let m = g.S.Store.meaning c.args.store.now in
-    let a = c.in-ok-kept.ensures.counts h in
-    let b = c.in-ok-more.ensures.counts a.ready in
-    let d = c.in-ok-copy-entries.ensures b.ready in
+    let a = c.in_ok-kept.ensures.counts h in
+    let b = c.in_ok-more.ensures.counts a.ready in
+    let d = c.in_ok-copy_entries.ensures b.ready in
     let e = c.set.ensures.keeps d.ready in
     let one = λ (p : Joinable φ from to m). a.call (countable k _ _ (omega (arith, p.fits)) p.rooms.other) in
     let two = λ (p : Joinable φ from to m). b.call (countable_same k _ _ _ (one p).same (omega (arith, p.fits)) p.rooms.one) in

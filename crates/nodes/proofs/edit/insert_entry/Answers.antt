@@ -9,17 +9,17 @@ use Rattle.nodes.proofs.Rooms.{room_edit, room_place, rooms_twice, countable, ca
 use Rattle.nodes.proofs.Lists.{insert_holds}
 use Rattle.nodes.proofs.edit.insert_entry.Goals as goal
 
-pub returns-in-err-n : goal.returns-in-err-n
-returns-in-err-n g c =
-    rw (raised _ _ c.from-residual.ensures) (λ h.
-    let e = c.in-err-n.ensures.counts h in
+pub returns-in_err-n : goal.returns-in_err-n
+returns-in_err-n g c =
+    rw (raised _ _ c.from_residual.ensures) (λ h.
+    let e = c.in_err-n.ensures.counts h in
     record { call = λ p. e.call (countable g.K.Key.width _ _ (omega (arith, p.free)) p.room); ready = e.ready })
 
-pub returns-in-err-copy-entries : goal.returns-in-err-copy-entries
-returns-in-err-copy-entries g c =
-    rw (raised _ _ c.from-residual-in-err-copy-entries.ensures) (λ h.
-    let r = c.in-ok-n.ensures.counts h in
-    let e = c.in-err-copy-entries.ensures r.ready in
+pub returns-in_err-copy_entries : goal.returns-in_err-copy_entries
+returns-in_err-copy_entries g c =
+    rw (raised _ _ c.from_residual-in_err-copy_entries.ensures) (λ h.
+    let r = c.in_ok-n.ensures.counts h in
+    let e = c.in_err-copy_entries.ensures r.ready in
     record {
       call = λ p.
           let same = (r.call (countable g.K.Key.width _ _ (omega (arith, p.free)) p.room)).same in
@@ -27,12 +27,12 @@ returns-in-err-copy-entries g c =
       ready = e.ready;
     })
 
-pub returns-in-err-put-entry : goal.returns-in-err-put-entry
-returns-in-err-put-entry g c =
-    rw (raised _ _ c.from-residual-in-err-put-entry.ensures) (λ h.
-    let r = c.in-ok-n.ensures.counts h in
-    let a = c.in-ok-copy-entries.ensures r.ready in
-    let e = c.in-err-put-entry.ensures a.ready in
+pub returns-in_err-put_entry : goal.returns-in_err-put_entry
+returns-in_err-put_entry g c =
+    rw (raised _ _ c.from_residual-in_err-put_entry.ensures) (λ h.
+    let r = c.in_ok-n.ensures.counts h in
+    let a = c.in_ok-copy_entries.ensures r.ready in
+    let e = c.in_err-put_entry.ensures a.ready in
     record {
       call = λ p.
           let same = (r.call (countable g.K.Key.width _ _ (omega (arith, p.free)) p.room)).same in
@@ -48,11 +48,11 @@ returns g c h =
     let x = entry_of g.K.Key.packed c.args.entry.now in
     let b = c.args.block in
     let i = c.args.i in
-    let n = c.in-ok-n.n in
+    let n = c.in_ok-n.n in
     let m = g.S.Store.meaning c.args.store.now in
-    let r = c.in-ok-n.ensures.counts h in
-    let a = c.in-ok-copy-entries.ensures r.ready in
-    let w = c.in-ok-put-entry.ensures a.ready in
+    let r = c.in_ok-n.ensures.counts h in
+    let a = c.in_ok-copy_entries.ensures r.ready in
+    let w = c.in_ok-put_entry.ensures a.ready in
     let e = c.set.ensures.keeps w.ready in
     let read = λ (p : Open φ b i m). r.call (countable k _ _ (omega (arith, p.free)) p.room) in
     let one = λ (p : Open φ b i m). carry_same φ b i b (i + 1) (n - i) _ _ _ (read p).same (a.call (rooms_twice _ _ _ _ (read p).same p.room)) in

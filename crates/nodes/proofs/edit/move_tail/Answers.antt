@@ -9,25 +9,25 @@ use Rattle.nodes.proofs.Rooms.{room_edit, room_place, rooms_same, countable_same
 use Rattle.nodes.proofs.Lists.{part_holds}
 use Rattle.nodes.proofs.edit.move_tail.Goals as goal
 
-pub returns-in-err-level : goal.returns-in-err-level
-returns-in-err-level g c =
-    rw (raised _ _ c.from-residual.ensures) (λ h.
-    let e = c.in-err-level.ensures.keeps h in
+pub returns-in_err-level : goal.returns-in_err-level
+returns-in_err-level g c =
+    rw (raised _ _ c.from_residual.ensures) (λ h.
+    let e = c.in_err-level.ensures.keeps h in
     record { call = λ p. word_lost (room_place (form g.K.Key.width) _ _ _ (omega arith) p.rooms.one) e.call e.deep; ready = e.ready })
 
-pub returns-in-err-n : goal.returns-in-err-n
-returns-in-err-n g c =
-    rw (raised _ _ c.from-residual-in-err-n.ensures) (λ h.
-    let a = c.in-ok-level.ensures.keeps h in
-    let e = c.in-err-n.ensures.counts a.ready in
+pub returns-in_err-n : goal.returns-in_err-n
+returns-in_err-n g c =
+    rw (raised _ _ c.from_residual-in_err-n.ensures) (λ h.
+    let a = c.in_ok-level.ensures.keeps h in
+    let e = c.in_err-n.ensures.counts a.ready in
     record { call = λ p. lost_later (kin_same a.call.same) (e.call (countable_same g.K.Key.width _ _ _ a.call.same p.few p.rooms.one)); ready = e.ready })
 
-pub returns-in-err-copy-entries : goal.returns-in-err-copy-entries
-returns-in-err-copy-entries g c =
-    rw (raised _ _ c.from-residual-in-err-copy-entries.ensures) (λ h.
-    let a = c.in-ok-level.ensures.keeps h in
-    let b = c.in-ok-n.ensures.counts a.ready in
-    let e = c.in-err-copy-entries.ensures b.ready in
+pub returns-in_err-copy_entries : goal.returns-in_err-copy_entries
+returns-in_err-copy_entries g c =
+    rw (raised _ _ c.from_residual-in_err-copy_entries.ensures) (λ h.
+    let a = c.in_ok-level.ensures.keeps h in
+    let b = c.in_ok-n.ensures.counts a.ready in
+    let e = c.in_err-copy_entries.ensures b.ready in
     record {
       call = λ p.
           let same = (b.call (countable_same g.K.Key.width _ _ _ a.call.same p.few p.rooms.one)).same ∙ a.call.same in
@@ -35,13 +35,13 @@ returns-in-err-copy-entries g c =
       ready = e.ready;
     })
 
-pub returns-in-err-set : goal.returns-in-err-set
-returns-in-err-set g c =
-    rw (raised _ _ c.from-residual-in-err-set.ensures) (λ h.
-    let a = c.in-ok-level.ensures.keeps h in
-    let b = c.in-ok-n.ensures.counts a.ready in
-    let d = c.in-ok-copy-entries.ensures b.ready in
-    let e = c.in-err-set.ensures.keeps d.ready in
+pub returns-in_err-set : goal.returns-in_err-set
+returns-in_err-set g c =
+    rw (raised _ _ c.from_residual-in_err-set.ensures) (λ h.
+    let a = c.in_ok-level.ensures.keeps h in
+    let b = c.in_ok-n.ensures.counts a.ready in
+    let d = c.in_ok-copy_entries.ensures b.ready in
+    let e = c.in_err-set.ensures.keeps d.ready in
     record {
       call = λ p.
           let same = (b.call (countable_same g.K.Key.width _ _ _ a.call.same p.few p.rooms.one)).same ∙ a.call.same in
@@ -50,14 +50,14 @@ returns-in-err-set g c =
       ready = e.ready;
     })
 
-pub returns-in-err-set-2 : goal.returns-in-err-set-2
-returns-in-err-set-2 g c =
-    rw (raised _ _ c.from-residual-in-err-set-2.ensures) (λ h.
-    let a = c.in-ok-level.ensures.keeps h in
-    let b = c.in-ok-n.ensures.counts a.ready in
-    let d = c.in-ok-copy-entries.ensures b.ready in
-    let s = c.in-ok-set.ensures.keeps d.ready in
-    let e = c.in-err-set-2.ensures.keeps s.ready in
+pub returns-in_err-set-2 : goal.returns-in_err-set-2
+returns-in_err-set-2 g c =
+    rw (raised _ _ c.from_residual-in_err-set-2.ensures) (λ h.
+    let a = c.in_ok-level.ensures.keeps h in
+    let b = c.in_ok-n.ensures.counts a.ready in
+    let d = c.in_ok-copy_entries.ensures b.ready in
+    let s = c.in_ok-set.ensures.keeps d.ready in
+    let e = c.in_err-set-2.ensures.keeps s.ready in
     record {
       call = λ p.
           let same = (b.call (countable_same g.K.Key.width _ _ _ a.call.same p.few p.rooms.one)).same ∙ a.call.same in
@@ -74,13 +74,13 @@ returns g c h =
     let from = c.args.from in
     let to = c.args.to in
     let at = c.args.m in
-    let n = c.in-ok-n.n in
+    let n = c.in_ok-n.n in
     let m = g.S.Store.meaning c.args.store.now in
-    let a = c.in-ok-level.ensures.keeps h in
-    let b = c.in-ok-n.ensures.counts a.ready in
-    let d = c.in-ok-copy-entries.ensures b.ready in
-    let s = c.in-ok-set.ensures.keeps d.ready in
-    let s' = c.in-ok-set-2.ensures.keeps s.ready in
+    let a = c.in_ok-level.ensures.keeps h in
+    let b = c.in_ok-n.ensures.counts a.ready in
+    let d = c.in_ok-copy_entries.ensures b.ready in
+    let s = c.in_ok-set.ensures.keeps d.ready in
+    let s' = c.in_ok-set-2.ensures.keeps s.ready in
     let e = c.set-3.ensures.keeps s'.ready in
     let read = λ (p : Partable φ from to at m). b.call (countable_same k _ _ _ a.call.same p.few p.rooms.one) in
     let n_is = λ (p : Partable φ from to at m). (read p).value ∙ ap (λ z. z.words from 1) a.call.same in

@@ -8,18 +8,18 @@ use Rattle.nodes.proofs.Rooms.{room_edit, room_place}
 use Rattle.nodes.proofs.Puts.{placed_two, placed_all}
 use Rattle.nodes.proofs.edit.put_entry.Goals as goal
 
-pub returns-in-err-set : goal.returns-in-err-set
-returns-in-err-set g c =
-    rw (raised _ _ c.from-residual.ensures) (λ h.
+pub returns-in_err-set : goal.returns-in_err-set
+returns-in_err-set g c =
+    rw (raised _ _ c.from_residual.ensures) (λ h.
     let φ = form g.K.Key.width in
-    let e = c.in-err-set.ensures.keeps h in
+    let e = c.in_err-set.ensures.keeps h in
     record { call = λ p. word_lost (room_place φ _ _ _ (omega arith) p) e.call e.deep; ready = e.ready })
 
-pub returns-in-err-put-key : goal.returns-in-err-put-key
-returns-in-err-put-key g c =
-    rw (raised _ _ c.from-residual-in-err-put-key.ensures) (λ h.
-    let a = c.in-ok-set.ensures.keeps h in
-    let e = c.in-err-put-key.ensures a.ready in
+pub returns-in_err-put_key : goal.returns-in_err-put_key
+returns-in_err-put_key g c =
+    rw (raised _ _ c.from_residual-in_err-put_key.ensures) (λ h.
+    let a = c.in_ok-set.ensures.keeps h in
+    let e = c.in_err-put_key.ensures a.ready in
     let one = set_edit _ _ _ _ _ a.call in
     record { call = λ p. lost_later (kin_edit _ _ _ _ one) (e.call (room_edit _ _ _ _ _ _ one p)); ready = e.ready })
 
@@ -29,8 +29,8 @@ returns g c h =
     let x = entry_of g.K.Key.packed c.args.entry.now in
     let b = c.args.block in
     let m = g.S.Store.meaning c.args.store.now in
-    let a = c.in-ok-set.ensures.keeps h in
-    let k = c.in-ok-put-key.ensures a.ready in
+    let a = c.in_ok-set.ensures.keeps h in
+    let k = c.in_ok-put_key.ensures a.ready in
     let e = c.set-2.ensures.keeps k.ready in
     let one = set_edit _ _ _ _ _ a.call in
     let two = λ (p : Room φ b m). placed_two φ _ c.args.i _ _ x _ _ _ one (k.call (room_edit _ _ _ _ _ _ one p)) in

@@ -12,15 +12,15 @@ loop-j-init g c h = record { call = λ p. filled_none _ _ _ _; ready = h }
 pub loop-j-preserved : goal.loop-j-preserved
 loop-j-preserved g c h =
     let i = c.loop-j.invariant h in
-    let s = c.in-ok-set.ensures.keeps i.ready in
+    let s = c.in_ok-set.ensures.keeps i.ready in
     record { call = λ p. filled_more _ _ _ _ _ _ _ _ c.word.ensures (i.call p) s.call; ready = s.ready }
 
-pub returns-in-err-set : goal.returns-in-err-set
-returns-in-err-set g c =
-    rw (raised _ _ c.from-residual.ensures) (λ h.
+pub returns-in_err-set : goal.returns-in_err-set
+returns-in_err-set g c =
+    rw (raised _ _ c.from_residual.ensures) (λ h.
     let φ = form g.K.Key.width in
     let i = c.loop-j.invariant h in
-    let e = c.in-err-set.ensures.keeps i.ready in
+    let e = c.in_err-set.ensures.keeps i.ready in
     let b = key_within φ c.args.i c.loop-j.j (omega arith) (omega arith) in
     record {
       call = λ p. lost_later (kin_edit _ _ _ _ (i.call p)) (word_lost (room_place φ _ _ _ (omega arith) (room_edit _ _ _ _ _ _ (i.call p) p)) e.call e.deep);
@@ -33,6 +33,6 @@ returns g c h =
     let all : c.loop-j.j ≡ g.K.Key.width = omega arith in
     let m = g.S.Store.meaning c.args.store.now in
     record {
-      call = λ p. i.call p ∙ (λ z. edit m c.args.block (filled (c.key-at-at.ensures z) (g.K.Key.packed c.args.key.now) (all z)));
+      call = λ p. i.call p ∙ (λ z. edit m c.args.block (filled (c.key_at-at.ensures z) (g.K.Key.packed c.args.key.now) (all z)));
       ready = i.ready;
     }

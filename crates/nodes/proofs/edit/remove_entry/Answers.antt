@@ -9,22 +9,22 @@ use Rattle.nodes.proofs.Rooms.{room_edit, room_place, rooms_twice, countable, ca
 use Rattle.nodes.proofs.Lists.{remove_holds}
 use Rattle.nodes.proofs.edit.remove_entry.Goals as goal
 
-pub returns-in-err-n : goal.returns-in-err-n
-returns-in-err-n g c =
-    rw (raised _ _ c.from-residual.ensures) (λ h.
-    let e = c.in-err-n.ensures.counts h in
+pub returns-in_err-n : goal.returns-in_err-n
+returns-in_err-n g c =
+    rw (raised _ _ c.from_residual.ensures) (λ h.
+    let e = c.in_err-n.ensures.counts h in
     record { call = λ p. e.call (countable g.K.Key.width _ _ p.few p.room); ready = e.ready })
 
 pub returns-then-i-n : goal.returns-then-i-n
 returns-then-i-n g c h =
-    let r = c.in-ok-n.ensures.counts h in
+    let r = c.in_ok-n.ensures.counts h in
     record { call = λ p. absurd (omega (arith, p.has, (r.call (countable g.K.Key.width _ _ p.few p.room)).value)); ready = r.ready }
 
-pub returns-in-err-copy-entries : goal.returns-in-err-copy-entries
-returns-in-err-copy-entries g c =
-    rw (raised _ _ c.from-residual-in-err-copy-entries.ensures) (λ h.
-    let r = c.in-ok-n.ensures.counts h in
-    let e = c.in-err-copy-entries.ensures r.ready in
+pub returns-in_err-copy_entries : goal.returns-in_err-copy_entries
+returns-in_err-copy_entries g c =
+    rw (raised _ _ c.from_residual-in_err-copy_entries.ensures) (λ h.
+    let r = c.in_ok-n.ensures.counts h in
+    let e = c.in_err-copy_entries.ensures r.ready in
     record {
       call = λ p.
           let same = (r.call (countable g.K.Key.width _ _ p.few p.room)).same in
@@ -38,10 +38,10 @@ returns g c h =
     let φ = form k in
     let b = c.args.block in
     let i = c.args.i in
-    let n = c.in-ok-n.n in
+    let n = c.in_ok-n.n in
     let m = g.S.Store.meaning c.args.store.now in
-    let r = c.in-ok-n.ensures.counts h in
-    let a = c.in-ok-copy-entries.ensures r.ready in
+    let r = c.in_ok-n.ensures.counts h in
+    let a = c.in_ok-copy_entries.ensures r.ready in
     let e = c.set.ensures.keeps a.ready in
     let read = λ (p : Has φ b i m). r.call (countable k _ _ p.few p.room) in
     let one = λ (p : Has φ b i m). carry_same φ b (i + 1) b i (n - (i + 1)) _ _ _ (read p).same (a.call (rooms_twice _ _ _ _ (read p).same p.room)) in

@@ -7,15 +7,15 @@ use Rattle.nodes.proofs.Rooms.{room_same, countable, edit_same}
 use Rattle.nodes.proofs.Lists.{replace_holds}
 use Rattle.nodes.proofs.edit.replace_entry.Goals as goal
 
-pub returns-in-err-held : goal.returns-in-err-held
-returns-in-err-held g c =
-    rw (raised _ _ c.from-residual.ensures) (λ h.
-    let e = c.in-err-held.ensures.counts h in
+pub returns-in_err-held : goal.returns-in_err-held
+returns-in_err-held g c =
+    rw (raised _ _ c.from_residual.ensures) (λ h.
+    let e = c.in_err-held.ensures.counts h in
     record { call = λ p. e.call (countable g.K.Key.width _ _ p.few p.room); ready = e.ready })
 
 pub returns-then-i-held : goal.returns-then-i-held
 returns-then-i-held g c h =
-    let r = c.in-ok-held.ensures.counts h in
+    let r = c.in_ok-held.ensures.counts h in
     record { call = λ p. absurd (omega (arith, p.has, (r.call (countable g.K.Key.width _ _ p.few p.room)).value)); ready = r.ready }
 
 pub returns : goal.returns
@@ -25,8 +25,8 @@ returns g c h =
     let b = c.args.block in
     let i = c.args.i in
     let m = g.S.Store.meaning c.args.store.now in
-    let r = c.in-ok-held.ensures.counts h in
-    let e = c.put-entry.ensures r.ready in
+    let r = c.in_ok-held.ensures.counts h in
+    let e = c.put_entry.ensures r.ready in
     let same = λ (p : Has φ b i m). (r.call (countable g.K.Key.width _ _ p.few p.room)).same in
     record {
       call = work_on (Has φ b i) (Room φ b) (Changed φ b (replace_at i x)) (Edited b (placed φ i x)) m _ _ _

@@ -8,12 +8,12 @@ use Rattle.nodes.proofs.read.entry_key.Goals as goal
 pub loop-j-init : goal.loop-j-init
 loop-j-init g c = (refl, λ h. record { call = λ p. (refl, λ x l. absurd (omega arith)); ready = h })
 
-pub returns-in-err-words : goal.returns-in-err-words
-returns-in-err-words g c =
-    rw (raised _ _ c.from-residual.ensures) (λ h.
+pub returns-in_err-words : goal.returns-in_err-words
+returns-in_err-words g c =
+    rw (raised _ _ c.from_residual.ensures) (λ h.
     let φ = form g.K.Key.width in
     let i = c.loop-j.invariant.1 h in
-    let e = c.in-err-words.ensures.keeps i.ready in
+    let e = c.in_err-words.ensures.keeps i.ready in
     let b = key_within φ c.args.i c.loop-j.j (omega arith) (omega arith) in
     record {
       call = λ p. lost_later (kin_same (i.call p).0) (word_lost (room_place φ _ _ _ (omega arith) (room_same _ _ _ _ (i.call p).0 p)) e.call e.deep);
@@ -26,7 +26,7 @@ loop-j-preserved g c =
       simp length-set c.loop-j.invariant.0,
       λ h.
           let i = c.loop-j.invariant.1 h in
-          let r = c.in-ok-words.ensures.keeps i.ready in
+          let r = c.in_ok-words.ensures.keeps i.ready in
           record {
             call = λ p. (r.call.same ∙ (i.call p).0, read_more _ _ _ _ _ _ _ _ _ (omega (arith, c.loop-j.invariant.0)) c.key_at.ensures (i.call p).1 (i.call p).0 r.call);
             ready = r.ready;
@@ -39,7 +39,7 @@ returns g c h =
     let i = c.loop-j.invariant.1 h in
     record {
       call = λ p. record {
-        value = read_all g.K.Key.unpacked (form g.K.Key.width) _ _ c.loop-j.j _ _ _ c.words-width.ensures (omega arith) (omega (arith, c.loop-j.invariant.0)) (i.call p).1 c.from-words.ensures;
+        value = read_all g.K.Key.unpacked (form g.K.Key.width) _ _ c.loop-j.j _ _ _ c.words-width.ensures (omega arith) (omega (arith, c.loop-j.invariant.0)) (i.call p).1 c.from_words.ensures;
         same = (i.call p).0;
       };
       ready = i.ready;

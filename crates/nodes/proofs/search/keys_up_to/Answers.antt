@@ -1,5 +1,7 @@
 use Rattle.std.proofs.Common.{◌≡◌, ◌+◌, ◌-◌, ◌/◌, sym, refl, ap, ◌∙◌, arith}
 use Rattle.std.proofs.lemmas.Bool.{both_ways}
+use Rattle.std.specs.Prelude.{◌==◌}
+use Rattle.std.specs.Ordering.{ordering_index}
 use Rattle.copies.proofs.Exits.{raised, lost_later, kin_same}
 use Rattle.nodes.specs.Places.{form}
 use Rattle.nodes.specs.Finds.{key_of}
@@ -8,7 +10,7 @@ use Rattle.nodes.proofs.Searches.{between_all, between_up, between_met, key_ther
 use Rattle.nodes.proofs.search.keys_up_to.Goals as goal
 
 pub loop-low-init : goal.loop-low-init
-loop-low-init g c = (omega arith, c.in-ok-high.ensures.within, λ h. record { call = λ p e. (refl, between_all _ _ _ _ _ _ _ refl refl e); ready = h })
+loop-low-init g c = (omega arith, c.in_ok-high.ensures.within, λ h. record { call = λ p e. (refl, between_all _ _ _ _ _ _ _ refl refl e); ready = h })
 
 pub loop-low-preserved : goal.loop-low-preserved
 loop-low-preserved g c =
@@ -21,35 +23,35 @@ loop-low-preserved g c =
       c.loop-low.invariant.1,
       λ h.
           let i = c.loop-low.invariant.2 h in
-          let k = c.in-ok-key.ensures i.ready in
+          let k = c.in_ok-key.ensures i.ready in
           record {
             call = λ p e.
                 let s = i.call p e in
                 let x = k.call (room_same _ _ _ _ s.0 p) in
                 let is = key_there φ unpacked _ mid _ _ _ _ s.0 x in
-                (x.same ∙ s.0, between_up order _ _ q _ _ mid _ refl (λ y. both_ways _ c.if-eq.false (c.eq.ensures.1 (c.compare.ensures ∙ ap (λ z. order z q) is ∙ y))) s.1);
+                (x.same ∙ s.0, between_up order _ _ q _ _ mid _ refl (λ y. both_ways _ c.if-eq.false (c.eq.ensures ∙ ap (λ r. ordering_index r == 2) (c.compare.ensures ∙ ap (λ z. order z q) is ∙ y))) s.1);
             ready = k.ready;
           },
     )
 
-pub returns-in-err-high : goal.returns-in-err-high
-returns-in-err-high g c =
-    rw (raised _ _ c.from-residual.ensures) (record {
+pub returns-in_err-high : goal.returns-in_err-high
+returns-in_err-high g c =
+    rw (raised _ _ c.from_residual.ensures) (record {
       within = tt;
       finds = λ h.
-          let e = c.in-err-high.ensures.counts h in
+          let e = c.in_err-high.ensures.counts h in
           record { call = λ p. e.call (countable g.K.Key.width _ _ p.few p.room); ready = e.ready };
-      refuses = λ h. c.in-err-high.ensures.refuses h;
+      refuses = λ h. c.in_err-high.ensures.refuses h;
     })
 
-pub returns-in-err-key : goal.returns-in-err-key
-returns-in-err-key g c =
-    rw (raised _ _ c.from-residual-in-err-key.ensures) (record {
+pub returns-in_err-key : goal.returns-in_err-key
+returns-in_err-key g c =
+    rw (raised _ _ c.from_residual-in_err-key.ensures) (record {
       within = tt;
       finds = λ h.
-          let a = c.in-ok-high.ensures.counts h in
+          let a = c.in_ok-high.ensures.counts h in
           let i = c.loop-low.invariant.2 a.ready in
-          let e = c.in-err-key.ensures i.ready in
+          let e = c.in_err-key.ensures i.ready in
           record {
             call = λ p.
                 let r = a.call (countable g.K.Key.width _ _ p.few p.room) in
@@ -58,15 +60,15 @@ returns-in-err-key g c =
             ready = e.ready;
           };
       refuses = λ h.
-          let a = c.in-ok-high.ensures.refuses h in
-          record { call = λ p. absurd (a.call p); ready = (c.in-err-key.ensures (c.loop-low.invariant.2 a.ready).ready).ready };
+          let a = c.in_ok-high.ensures.refuses h in
+          record { call = λ p. absurd (a.call p); ready = (c.in_err-key.ensures (c.loop-low.invariant.2 a.ready).ready).ready };
     })
 
 pub returns : goal.returns
 returns g c = record {
   within = omega (arith, c.loop-low.invariant.0, c.loop-low.invariant.1);
   finds = λ h.
-      let a = c.in-ok-high.ensures.counts h in
+      let a = c.in_ok-high.ensures.counts h in
       let i = c.loop-low.invariant.2 a.ready in
       record {
         call = λ p.
@@ -76,6 +78,6 @@ returns g c = record {
         ready = i.ready;
       };
   refuses = λ h.
-      let a = c.in-ok-high.ensures.refuses h in
+      let a = c.in_ok-high.ensures.refuses h in
       record { call = a.call; ready = (c.loop-low.invariant.2 a.ready).ready };
 }

@@ -7,11 +7,11 @@ loop-i-init c = seen_none _ _ _ c.requires
 
 pub loop-i-preserved : goal.loop-i-preserved
 loop-i-preserved c =
-    rw c.note.ensures.noted (seen_more c.loop-i.invariant c.loop-i.auto.seen c.frame-at.result c.frame-at.ensures (sym c.if-not-note.ensures.fresh))
+    rw c.note.ensures.noted (seen_more c.loop-i.invariant c.loop-i.auto.seen c.frame_at.result c.frame_at.ensures (sym c.if-not-note.ensures.fresh))
 
 pub returns-then-not-note : goal.returns-then-not-note
 returns-then-not-note c =
-    seen_awry c.loop-i.invariant c.loop-i.auto.seen c.frame-at.result c.frame-at.ensures c.args.n c.loop-i-test.true (sym c.if-not-note.ensures.fresh)
+    seen_awry c.loop-i.invariant c.loop-i.auto.seen c.frame_at.result c.frame_at.ensures c.args.n c.loop-i-test.true (sym c.if-not-note.ensures.fresh)
 
 pub returns : goal.returns
 returns c = seen_all c.args.n c.loop-i.invariant (omega arith)

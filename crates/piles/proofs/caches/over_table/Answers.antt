@@ -12,12 +12,12 @@ returns-in-Err c j =
 pub returns-in-Ok : goal.returns-in-Ok
 returns-in-Ok c j =
     let f = c.in-Ok.ensures in
-    let t = c.through-cache-answer.ensures f.ready j in
-    let s = c.through-cache-answer.result.store in
-    let r = c.through-cache-answer.result.answer in
+    let t = c.through_cache-answer.ensures f.ready j in
+    let s = c.through_cache-answer.result.store in
+    let r = c.through_cache-answer.result.answer in
     let w = ap (λ m. m.shape.width) f.same in
     let a = c.args in
-    subst (λ ms. Cached a.p a.width a.word a.marks.now a.words.now r ms c.into-runs.result.words.now) (sym c.into-runs.ensures.marks)
-    (subst (λ ws. Cached a.p a.width a.word a.marks.now a.words.now r s.marks.now ws) (sym c.into-runs.ensures.words)
+    subst (λ ms. Cached a.p a.width a.word a.marks.now a.words.now r ms c.into_runs.result.words.now) (sym c.into_runs.ensures.marks)
+    (subst (λ ws. Cached a.p a.width a.word a.marks.now a.words.now r s.marks.now ws) (sym c.into_runs.ensures.words)
     (run_cached a.p a.width a.word a.marks.now a.words.now s.width s.capacity s.granted s.marks.now s.words.now
     (subst (λ k. 1 ≤ k) w f.ready.wide) (subst (λ k. k ≤ 512) w f.ready.narrow) t.ready r _ f.same t.call))

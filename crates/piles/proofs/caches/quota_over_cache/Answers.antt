@@ -12,8 +12,8 @@ pub returns-in-Ok : goal.returns-in-Ok
 returns-in-Ok c =
     let a = c.args in
     let m = c.in-Ok.ensures in
-    let o = c.over-table-answer.result in
+    let o = c.over_table-answer.result in
     subst (λ r. QuotaCache a.p a.lines a.width a.word a.marks.now a.words.now r o.runs.marks.now o.runs.words.now) (sym c.unmade_by.ensures)
     (ran_cached a.p a.lines a.width a.word a.marks.now a.words.now o.runs.marks.now o.runs.words.now
     (record { some = subst (λ k. 1 ≤ k) m.lines c.in-Ok.table.some; few = subst (λ k. k ≤ 16) m.lines c.in-Ok.table.few })
-    o.answer (c.over-table-answer.ensures m.unused))
+    o.answer (c.over_table-answer.ensures m.unused))

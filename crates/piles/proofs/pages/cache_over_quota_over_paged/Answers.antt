@@ -14,7 +14,7 @@ pub returns-in-Ok : goal.returns-in-Ok
 returns-in-Ok c =
     let a = c.args in
     let m = c.in-Ok.ensures in
-    let o = c.over-paged.result.runs in
+    let o = c.over_paged.result.runs in
     lines_made a.q a.lines a.width a.word (record { map = a.map.now; marks = a.marks.now; words = a.words.now }) (record { map = o.map.now; marks = o.marks.now; words = o.words.now })
     (record { some = subst (λ k. 1 ≤ k) m.lines c.in-Ok.table.some; few = subst (λ k. k ≤ 16) m.lines c.in-Ok.table.few })
-    c.over-paged.result.answer (c.over-paged.ensures m.unused)
+    c.over_paged.result.answer (c.over_paged.ensures m.unused)

@@ -9,12 +9,12 @@ use Rattle.piles.proofs.pages.cached_one.Goals as goal
 pub returns-in-None : goal.returns-in-None
 returns-in-None g c h j =
     let M = g.S.Store.meaning in
-    let r = c.use-one-answer.result.answer in
+    let r = c.use_one-answer.result.answer in
     let first = c.new.result in
-    let out = c.use-one-answer.result.store in
+    let out = c.use_one-answer.result.store in
     let n = c.close-store.result.store in
     let o = c.new.ensures.opened h j in
-    let u = c.use-one-answer.ensures (subst g.S.Store.ready (sym c.new.ensures.below) h, o.held) in
+    let u = c.use_one-answer.ensures (subst g.S.Store.ready (sym c.new.ensures.below) h, o.held) in
     let d = c.close-store.ensures u.ready.0 u.ready.1 in
     let e = subst (λ z. Closes (table_views out.table) (M out.store) z (M n)) c.in-None.is d.call in
     record {
@@ -26,12 +26,12 @@ returns-in-None g c h j =
 pub returns-in-Some : goal.returns-in-Some
 returns-in-Some g c h j =
     let M = g.S.Store.meaning in
-    let r = c.use-one-answer.result.answer in
+    let r = c.use_one-answer.result.answer in
     let first = c.new.result in
-    let out = c.use-one-answer.result.store in
+    let out = c.use_one-answer.result.store in
     let n = c.close-store.result.store in
     let o = c.new.ensures.opened h j in
-    let u = c.use-one-answer.ensures (subst g.S.Store.ready (sym c.new.ensures.below) h, o.held) in
+    let u = c.use_one-answer.ensures (subst g.S.Store.ready (sym c.new.ensures.below) h, o.held) in
     let d = c.close-store.ensures u.ready.0 u.ready.1 in
     let e = subst (λ z. Closes (table_views out.table) (M out.store) z (M n)) c.in-Some.is d.call in
     record {

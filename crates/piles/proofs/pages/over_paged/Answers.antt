@@ -12,12 +12,12 @@ returns-in-Err c j =
 pub returns-in-Ok : goal.returns-in-Ok
 returns-in-Ok c j =
     let f = c.in-Ok.ensures in
-    let t = c.cached-quota-answer.ensures f.ready j in
-    let s = c.cached-quota-answer.result.store in
-    let r = c.cached-quota-answer.result.answer in
+    let t = c.cached_quota-answer.ensures f.ready j in
+    let s = c.cached_quota-answer.result.store in
+    let r = c.cached_quota-answer.result.answer in
     let w = ap (λ m. m.shape.width) f.same in
     let a = c.args in
-    let i = c.into-runs.ensures in
+    let i = c.into_runs.ensures in
     let start : Pages = record { map = a.map.now; marks = a.marks.now; words = a.words.now } in
     let left : Pages = record { map = s.map.now; marks = s.marks.now; words = s.words.now } in
     let o = c.in-Ok.store in

@@ -11,12 +11,12 @@ returns g c h =
     let p = c.args.p in
     let q = c.args.q in
     let x = c.args.word in
-    let r = c.use-one-answer.result.answer in
+    let r = c.use_one-answer.result.answer in
     let top = c.new-2.result in
-    let out = c.use-one-answer.result.store in
+    let out = c.use_one-answer.result.store in
     let e = ap (λ z. z.store) c.new-2.ensures.below ∙ c.new.ensures.below in
     let k = ap (λ z. z.limit) c.new-2.ensures.below ∙ c.new.ensures.limit in
-    let u = c.use-one-answer.ensures (subst g.S.Store.ready (sym e) h) in
+    let u = c.use_one-answer.ensures (subst g.S.Store.ready (sym e) h) in
     let v = below_two x p q top.limit top.store.limit out.limit out.store.limit (M top.store.store) (M out.store.store) r c.new-2.ensures.limit k u.call in
     let o = c.end-2.ensures ∙ ap (λ z. z.store) c.end.ensures in
     subst (λ s. Left (Use (quota_shape p (quota_shape q (M c.args.store).shape)) x (M c.args.store) r (M s)) (g.S.Store.ready s)) (sym o)

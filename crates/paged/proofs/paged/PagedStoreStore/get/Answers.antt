@@ -3,10 +3,10 @@ use Rattle.stores.proofs.LaidCalls.{missed, got}
 use Rattle.paged.specs.Laws.Frames.{frames_lie}
 use Rattle.paged.proofs.paged.PagedStoreStore.get.Goals as goal
 
-pub returns-in-err-at : goal.returns-in-err-at
-returns-in-err-at c =
-    let p = err_from_is_err_and c.from-residual.result c.from-residual.ensures.1 in
-    rw (p.1, p.2) (record { keeps = λ f. missed (frames_lie f) c.in-err-at.ensures f; did = tt })
+pub returns-in_err-at : goal.returns-in_err-at
+returns-in_err-at c =
+    let p = err_from_is_err_and c.from_residual.result c.from_residual.ensures.1 in
+    rw (p.1, p.2) (record { keeps = λ f. missed (frames_lie f) c.in_err-at.ensures f; did = tt })
 
 pub returns : goal.returns
-returns c = record { keeps = λ f. record { call = got (frames_lie f) c.in-ok-at.ensures c.word.ensures; deep = tt; ready = f }; did = tt }
+returns c = record { keeps = λ f. record { call = got (frames_lie f) c.in_ok-at.ensures c.word.ensures; deep = tt; ready = f }; did = tt }

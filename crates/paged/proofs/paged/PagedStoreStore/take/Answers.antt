@@ -10,7 +10,7 @@ returns-then-self c = rw c.own.ensures (record { keeps = λ f. record { call = n
 pub returns-then-slot-self : goal.returns-then-slot-self
 returns-then-slot-self c = record {
   keeps = λ f.
-      let m = c.free-slot-slot.ensures in
+      let m = c.free_slot-slot.ensures in
       let low = slot_below (frames_lie f) _ m.within m.used c.if-self.false in
       absurd (omega arith);
   did = tt;
@@ -19,4 +19,4 @@ returns-then-slot-self c = record {
 pub returns : goal.returns
 returns c =
     let low = c.if-slot-self.false in
-    record { keeps = λ f. took_block c.args.self.now f _ low (c.free-slot-slot.ensures.free low) c.if-self.false c.grant.ensures; did = tt }
+    record { keeps = λ f. took_block c.args.self.now f _ low (c.free_slot-slot.ensures.free low) c.if-self.false c.grant.ensures; did = tt }
