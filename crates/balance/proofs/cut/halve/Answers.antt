@@ -5,17 +5,17 @@ use Rattle.nodes.proofs.Rooms.{room_same, countable}
 use Rattle.balance.proofs.Weights.{counted, totalled, cut_before, summed_before, not_all, halved}
 use Rattle.balance.proofs.cut.halve.Goals as goal
 
-pub returns-in-err-n : goal.returns-in-err-n
-returns-in-err-n g c =
-    rw (raised _ _ c.from-residual.ensures) (λ h.
-    let e = c.in-err-n.ensures.counts h in
+pub returns-in_err-n : goal.returns-in_err-n
+returns-in_err-n g c =
+    rw (raised _ _ c.from_residual.ensures) (λ h.
+    let e = c.in_err-n.ensures.counts h in
     record { call = λ p. e.call (countable g.K.Key.width _ _ p.mild.node.few p.mild.node.room); ready = e.ready })
 
-pub returns-in-err-all : goal.returns-in-err-all
-returns-in-err-all g c =
-    rw (raised _ _ c.from-residual-in-err-all.ensures) (λ h.
-    let a = c.in-ok-n.ensures.counts h in
-    let e = c.in-err-all.ensures.sums a.ready in
+pub returns-in_err-all : goal.returns-in_err-all
+returns-in_err-all g c =
+    rw (raised _ _ c.from_residual-in_err-all.ensures) (λ h.
+    let a = c.in_ok-n.ensures.counts h in
+    let e = c.in_err-all.ensures.sums a.ready in
     record {
       call = λ p.
           let n = a.call (countable g.K.Key.width _ _ p.mild.node.few p.mild.node.room) in
@@ -23,12 +23,12 @@ returns-in-err-all g c =
       ready = e.ready;
     })
 
-pub returns-in-err-cut : goal.returns-in-err-cut
-returns-in-err-cut g c =
-    rw (raised _ _ c.from-residual-in-err-cut.ensures) (λ h.
-    let a = c.in-ok-n.ensures.counts h in
-    let b = c.in-ok-all.ensures.sums a.ready in
-    let e = c.in-err-cut.ensures.cuts b.ready in
+pub returns-in_err-cut : goal.returns-in_err-cut
+returns-in_err-cut g c =
+    rw (raised _ _ c.from_residual-in_err-cut.ensures) (λ h.
+    let a = c.in_ok-n.ensures.counts h in
+    let b = c.in_ok-all.ensures.sums a.ready in
+    let e = c.in_err-cut.ensures.cuts b.ready in
     record {
       call = λ p.
           let n = a.call (countable g.K.Key.width _ _ p.mild.node.few p.mild.node.room) in
@@ -40,9 +40,9 @@ returns-in-err-cut g c =
 
 pub returns-then-cut-n : goal.returns-then-cut-n
 returns-then-cut-n g c h =
-    let a = c.in-ok-n.ensures.counts h in
-    let b = c.in-ok-all.ensures.sums a.ready in
-    let e = c.in-ok-cut.ensures.cuts b.ready in
+    let a = c.in_ok-n.ensures.counts h in
+    let b = c.in_ok-all.ensures.sums a.ready in
+    let e = c.in_ok-cut.ensures.cuts b.ready in
     record {
       call = λ p.
           let n = a.call (countable g.K.Key.width _ _ p.mild.node.few p.mild.node.room) in
@@ -52,13 +52,13 @@ returns-then-cut-n g c h =
       ready = e.ready;
     }
 
-pub returns-in-err-key : goal.returns-in-err-key
-returns-in-err-key g c =
-    rw (raised _ _ c.from-residual-in-err-key.ensures) (λ h.
-    let a = c.in-ok-n.ensures.counts h in
-    let b = c.in-ok-all.ensures.sums a.ready in
-    let d = c.in-ok-cut.ensures.cuts b.ready in
-    let e = c.in-err-key.ensures d.ready in
+pub returns-in_err-key : goal.returns-in_err-key
+returns-in_err-key g c =
+    rw (raised _ _ c.from_residual-in_err-key.ensures) (λ h.
+    let a = c.in_ok-n.ensures.counts h in
+    let b = c.in_ok-all.ensures.sums a.ready in
+    let d = c.in_ok-cut.ensures.cuts b.ready in
+    let e = c.in_err-key.ensures d.ready in
     record {
       call = λ p.
           let n = a.call (countable g.K.Key.width _ _ p.mild.node.few p.mild.node.room) in
@@ -71,10 +71,10 @@ returns-in-err-key g c =
 
 pub returns : goal.returns
 returns g c h =
-    let a = c.in-ok-n.ensures.counts h in
-    let b = c.in-ok-all.ensures.sums a.ready in
-    let d = c.in-ok-cut.ensures.cuts b.ready in
-    let e = c.in-ok-key.ensures d.ready in
+    let a = c.in_ok-n.ensures.counts h in
+    let b = c.in_ok-all.ensures.sums a.ready in
+    let d = c.in_ok-cut.ensures.cuts b.ready in
+    let e = c.in_ok-key.ensures d.ready in
     record {
       call = λ p.
           let n = a.call (countable g.K.Key.width _ _ p.mild.node.few p.mild.node.room) in

@@ -13,7 +13,7 @@ loop-kept-preserved g c = (
   omega arith,
   λ h.
       let i = c.loop-kept.invariant.2 h in
-      let e = c.in-ok-weight.ensures.weighs i.ready in
+      let e = c.in_ok-weight.ensures.weighs i.ready in
       record {
         call = λ p.
             let s = i.call p in
@@ -22,13 +22,13 @@ loop-kept-preserved g c = (
       },
 )
 
-pub returns-in-err-weight : goal.returns-in-err-weight
-returns-in-err-weight g c =
-    rw (raised _ _ c.from-residual.ensures) (record {
+pub returns-in_err-weight : goal.returns-in_err-weight
+returns-in_err-weight g c =
+    rw (raised _ _ c.from_residual.ensures) (record {
       bound = tt;
       cuts = λ h.
           let i = c.loop-kept.invariant.2 h in
-          let e = c.in-err-weight.ensures.weighs i.ready in
+          let e = c.in_err-weight.ensures.weighs i.ready in
           record {
             call = λ p.
                 let s = i.call p in
@@ -42,7 +42,7 @@ returns-then-passed-weight g c = record {
   bound = (c.loop-kept.invariant.1, omega arith);
   cuts = λ h.
       let i = c.loop-kept.invariant.2 h in
-      let e = c.in-ok-weight.ensures.weighs i.ready in
+      let e = c.in_ok-weight.ensures.weighs i.ready in
       record {
         call = λ p.
             let s = i.call p in

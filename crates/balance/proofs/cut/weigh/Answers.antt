@@ -10,12 +10,12 @@ returns-then-level-eq0 g c = record {
   weighs = λ h. record { call = weighed_leaf (form g.K.Key.width) _ _ _ _ c.if-level-eq0.true; ready = h };
 }
 
-pub returns-in-err-weight : goal.returns-in-err-weight
-returns-in-err-weight g c =
-    rw (raised _ _ c.from-residual.ensures) (record {
+pub returns-in_err-weight : goal.returns-in_err-weight
+returns-in_err-weight g c =
+    rw (raised _ _ c.from_residual.ensures) (record {
       bound = tt;
       weighs = λ h.
-          let e = c.in-err-weight.ensures h in
+          let e = c.in_err-weight.ensures h in
           record { call = λ p. e.call (weight_there _ _ _ _ _ p); ready = e.ready };
     })
 
@@ -23,7 +23,7 @@ pub returns-then-weight-gt-HEAVIEST : goal.returns-then-weight-gt-HEAVIEST
 returns-then-weight-gt-HEAVIEST g c = record {
   bound = tt;
   weighs = λ h.
-      let e = c.in-ok-weight.ensures h in
+      let e = c.in_ok-weight.ensures h in
       record {
         call = λ p.
             let r = weighed_inner (form g.K.Key.width) _ _ _ _ _ _ c.if-level-eq0.false p (e.call (weight_there _ _ _ _ _ p)) in
@@ -36,7 +36,7 @@ pub returns : goal.returns
 returns g c = record {
   bound = omega arith;
   weighs = λ h.
-      let e = c.in-ok-weight.ensures h in
+      let e = c.in_ok-weight.ensures h in
       record {
         call = λ p. weighed_inner (form g.K.Key.width) _ _ _ _ _ _ c.if-level-eq0.false p (e.call (weight_there _ _ _ _ _ p));
         ready = e.ready;

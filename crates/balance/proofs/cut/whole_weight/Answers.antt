@@ -9,10 +9,10 @@ loop-i-init g c = (omega arith, λ h. record { call = λ p. (refl, refl); ready 
 
 pub loop-i-preserved : goal.loop-i-preserved
 loop-i-preserved g c = (
-  omega (arith, c.loop-i.invariant.0, c.in-ok-weight.ensures.bound),
+  omega (arith, c.loop-i.invariant.0, c.in_ok-weight.ensures.bound),
   λ h.
       let i = c.loop-i.invariant.1 h in
-      let e = c.in-ok-weight.ensures.weighs i.ready in
+      let e = c.in_ok-weight.ensures.weighs i.ready in
       record {
         call = λ p.
             let s = i.call p in
@@ -21,13 +21,13 @@ loop-i-preserved g c = (
       },
 )
 
-pub returns-in-err-weight : goal.returns-in-err-weight
-returns-in-err-weight g c =
-    rw (raised _ _ c.from-residual.ensures) (record {
+pub returns-in_err-weight : goal.returns-in_err-weight
+returns-in_err-weight g c =
+    rw (raised _ _ c.from_residual.ensures) (record {
       bound = tt;
       sums = λ h.
           let i = c.loop-i.invariant.1 h in
-          let e = c.in-err-weight.ensures.weighs i.ready in
+          let e = c.in_err-weight.ensures.weighs i.ready in
           record {
             call = λ p.
                 let s = i.call p in

@@ -5,22 +5,22 @@ use Rattle.nodes.specs.Nodes.{entry_at}
 use Rattle.nodes.proofs.Rooms.{room_same}
 use Rattle.balance.proofs.way.way_down.Goals as goal
 
-pub returns-in-err-upto : goal.returns-in-err-upto
-returns-in-err-upto g c =
-    rw (raised _ _ c.from-residual.ensures) (record {
+pub returns-in_err-upto : goal.returns-in_err-upto
+returns-in_err-upto g c =
+    rw (raised _ _ c.from_residual.ensures) (record {
       within = tt;
       leads = λ h.
-          let e = c.in-err-upto.ensures.finds h in
+          let e = c.in_err-upto.ensures.finds h in
           record { call = λ p. e.call p.node; ready = e.ready };
     })
 
-pub returns-in-err-child : goal.returns-in-err-child
-returns-in-err-child g c =
-    rw (raised _ _ c.from-residual-in-err-child.ensures) (record {
+pub returns-in_err-child : goal.returns-in_err-child
+returns-in_err-child g c =
+    rw (raised _ _ c.from_residual-in_err-child.ensures) (record {
       within = tt;
       leads = λ h.
-          let a = c.in-ok-upto.ensures.finds h in
-          let e = c.in-err-child.ensures a.ready in
+          let a = c.in_ok-upto.ensures.finds h in
+          let e = c.in_err-child.ensures a.ready in
           record {
             call = λ p.
                 let f = a.call p.node in
@@ -31,19 +31,19 @@ returns-in-err-child g c =
 
 pub returns : goal.returns
 returns g c = record {
-  within = omega (arith, c.in-ok-upto.ensures.within);
+  within = omega (arith, c.in_ok-upto.ensures.within);
   leads = λ h.
-      let a = c.in-ok-upto.ensures.finds h in
-      let e = c.in-ok-child.ensures a.ready in
+      let a = c.in_ok-upto.ensures.finds h in
+      let e = c.in_ok-child.ensures a.ready in
       record {
         call = λ p.
             let f = a.call p.node in
             let x = e.call (room_same _ _ _ _ f.same p.node.room) in
             record {
-              upto = c.in-ok-upto.upto;
+              upto = c.in_ok-upto.upto;
               found = record { same = x.same ∙ f.same; sought = f.sought; split = f.split };
-              place = c.saturating-sub-place.ensures;
-              child = x.value ∙ ap (λ m. block_number (entry_at (form g.K.Key.width) (m.words c.args.block) c.saturating-sub-place.result).child) f.same;
+              place = c.saturating_sub-place.ensures;
+              child = x.value ∙ ap (λ m. block_number (entry_at (form g.K.Key.width) (m.words c.args.block) c.saturating_sub-place.result).child) f.same;
             };
         ready = e.ready;
       };
