@@ -1,32 +1,40 @@
-use Rattle.std.proofs.Common.{◌≡◌, sym, ap, ◌∙◌}
+use Rattle.std.proofs.Common.{◌≡◌, Bool, true, Ordering, Less, Equal, Greater, sym, refl, ap, ◌∙◌, true≢false}
+use Rattle.std.specs.Prelude.{◌==◌}
+use Rattle.std.specs.Ordering.{ordering_index}
 use Rattle.std.proofs.lemmas.Bool.{both_ways}
 use Rattle.copies.proofs.Exits.{raised}
 use Rattle.ask.proofs.Leaves.{handle_at, told_find, same_handle, other_handle}
 use Rattle.ask.proofs.find.find.Goals as goal
 
-pub returns-in-err-nearest : goal.returns-in-err-nearest
-returns-in-err-nearest g c = rw (raised _ _ c.from-residual.ensures) (λ h. c.in-err-nearest.ensures h)
+-- the test of equality that the code makes
+equal_index : (r : Ordering) → (ordering_index r == 1) ≡ true → r ≡ Equal
+equal_index Less e = absurd (true≢false (sym e))
+equal_index Equal e = refl
+equal_index Greater e = absurd (true≢false (sym e))
 
-pub returns-in-default : goal.returns-in-default
-returns-in-default g c = λ h.
-    let a = c.in-ok-nearest.ensures h in
+pub returns-in_err-nearest : goal.returns-in_err-nearest
+returns-in_err-nearest g c = rw (raised _ _ c.from_residual.ensures) (λ h. c.in_err-nearest.ensures h)
+
+pub returns-in_default : goal.returns-in_default
+returns-in_default g c = λ h.
+    let a = c.in_ok-nearest.ensures h in
     record {
       call = λ p.
           let t = a.call p in
-          record { value_is = told_find g.met.K.Key.ordered _ _ _ _ p.ascending t.value_is (sym (ap (handle_at g.K.Key.order _) c.in-default.is)); same = t.same };
+          record { value_is = told_find g.met.K.Key.ordered _ _ _ _ p.ascending t.value_is (sym (ap (handle_at g.K.Key.order _) c.in_default.is)); same = t.same };
       ready = a.ready;
     }
 
 pub returns-then-eq : goal.returns-then-eq
 returns-then-eq g c = λ h.
-    let a = c.in-ok-nearest.ensures h in
+    let a = c.in_ok-nearest.ensures h in
     let order = g.K.Key.order in
     record {
       call = λ p.
           let t = a.call p in
           record {
             value_is = told_find g.met.K.Key.ordered _ _ _ _ p.ascending t.value_is
-                (same_handle order _ _ (sym c.compare.ensures ∙ c.eq.ensures.0 c.if-eq.true) ∙ sym (ap (handle_at order _) c.in-Some.is));
+                (same_handle order _ _ (sym c.compare.ensures ∙ equal_index c.compare.result (sym c.eq.ensures ∙ c.if-eq.true)) ∙ sym (ap (handle_at order _) c.in-Some.is));
             same = t.same;
           };
       ready = a.ready;
@@ -34,14 +42,14 @@ returns-then-eq g c = λ h.
 
 pub returns-else-eq : goal.returns-else-eq
 returns-else-eq g c = λ h.
-    let a = c.in-ok-nearest.ensures h in
+    let a = c.in_ok-nearest.ensures h in
     let order = g.K.Key.order in
     record {
       call = λ p.
           let t = a.call p in
           record {
             value_is = told_find g.met.K.Key.ordered _ _ _ _ p.ascending t.value_is
-                (other_handle order _ _ (λ e. both_ways _ c.if-eq.false (c.eq.ensures.1 (c.compare.ensures ∙ e))) ∙ sym (ap (handle_at order _) c.in-Some.is));
+                (other_handle order _ _ (λ e. both_ways _ c.if-eq.false (c.eq.ensures ∙ ap (λ r. ordering_index r == 1) (c.compare.ensures ∙ e))) ∙ sym (ap (handle_at order _) c.in-Some.is));
             same = t.same;
           };
       ready = a.ready;

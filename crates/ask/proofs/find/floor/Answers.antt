@@ -12,14 +12,14 @@ use Rattle.ask.proofs.find.floor.Goals as goal
 abbrev of : (g : given.Over) → Kind g.row.K.Denot
 of g = kind g.K.Key.width g.K.Key.order g.K.Key.packed g.K.Key.unpacked
 
-pub returns-in-err-leaf : goal.returns-in-err-leaf
-returns-in-err-leaf g c = rw (raised _ _ c.from-residual.ensures) (λ h. c.in-err-leaf.ensures h)
+pub returns-in_err-leaf : goal.returns-in_err-leaf
+returns-in_err-leaf g c = rw (raised _ _ c.from_residual.ensures) (λ h. c.in_err-leaf.ensures h)
 
-pub returns-in-err-n : goal.returns-in-err-n
-returns-in-err-n g c =
-    rw (raised _ _ c.from-residual-in-err-n.ensures) (λ h.
-    let a = c.in-ok-leaf.ensures h in
-    let e = c.in-err-n.ensures.finds a.ready in
+pub returns-in_err-n : goal.returns-in_err-n
+returns-in_err-n g c =
+    rw (raised _ _ c.from_residual-in_err-n.ensures) (λ h.
+    let a = c.in_ok-leaf.ensures h in
+    let e = c.in_err-n.ensures.finds a.ready in
     record {
       call = λ p.
           let f = a.call p in
@@ -29,8 +29,8 @@ returns-in-err-n g c =
 
 pub returns-then-n-eq0 : goal.returns-then-n-eq0
 returns-then-n-eq0 g c = λ h.
-    let a = c.in-ok-leaf.ensures h in
-    let e = c.in-ok-n.ensures.finds a.ready in
+    let a = c.in_ok-leaf.ensures h in
+    let e = c.in_ok-n.ensures.finds a.ready in
     record {
       call = λ p.
           let f = a.call p in
@@ -39,12 +39,12 @@ returns-then-n-eq0 g c = λ h.
       ready = e.ready;
     }
 
-pub returns-in-err-found : goal.returns-in-err-found
-returns-in-err-found g c =
-    rw (raised _ _ c.from-residual-in-err-found.ensures) (λ h.
-    let a = c.in-ok-leaf.ensures h in
-    let e = c.in-ok-n.ensures.finds a.ready in
-    let x = c.in-err-found.ensures e.ready in
+pub returns-in_err-found : goal.returns-in_err-found
+returns-in_err-found g c =
+    rw (raised _ _ c.from_residual-in_err-found.ensures) (λ h.
+    let a = c.in_ok-leaf.ensures h in
+    let e = c.in_ok-n.ensures.finds a.ready in
+    let x = c.in_err-found.ensures e.ready in
     record {
       call = λ p.
           let f = a.call p in
@@ -53,13 +53,13 @@ returns-in-err-found g c =
       ready = x.ready;
     })
 
-pub returns-in-err-handle : goal.returns-in-err-handle
-returns-in-err-handle g c =
-    rw (raised _ _ c.from-residual-in-err-handle.ensures) (λ h.
-    let a = c.in-ok-leaf.ensures h in
-    let e = c.in-ok-n.ensures.finds a.ready in
-    let x = c.in-ok-found.ensures e.ready in
-    let y = c.in-err-handle.ensures x.ready in
+pub returns-in_err-handle : goal.returns-in_err-handle
+returns-in_err-handle g c =
+    rw (raised _ _ c.from_residual-in_err-handle.ensures) (λ h.
+    let a = c.in_ok-leaf.ensures h in
+    let e = c.in_ok-n.ensures.finds a.ready in
+    let x = c.in_ok-found.ensures e.ready in
+    let y = c.in_err-handle.ensures x.ready in
     record {
       call = λ p.
           let f = a.call p in
@@ -72,10 +72,10 @@ returns-in-err-handle g c =
 
 pub returns : goal.returns
 returns g c = λ h.
-    let a = c.in-ok-leaf.ensures h in
-    let e = c.in-ok-n.ensures.finds a.ready in
-    let x = c.in-ok-found.ensures e.ready in
-    let y = c.in-ok-handle.ensures x.ready in
+    let a = c.in_ok-leaf.ensures h in
+    let e = c.in_ok-n.ensures.finds a.ready in
+    let x = c.in_ok-found.ensures e.ready in
+    let y = c.in_ok-handle.ensures x.ready in
     record {
       call = λ p.
           let f = a.call p in

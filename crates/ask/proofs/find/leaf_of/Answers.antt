@@ -17,7 +17,7 @@ loop-depth-init g c = λ h. record { call = λ p. (refl, below_start (of g) (law
 pub loop-depth-preserved : goal.loop-depth-preserved
 loop-depth-preserved g c = λ h.
     let i = c.loop-depth.invariant h in
-    let e = c.in-ok-block.ensures.leads i.ready in
+    let e = c.in_ok-block.ensures.leads i.ready in
     record {
       call = λ p.
           let s = i.call p in
@@ -25,11 +25,11 @@ loop-depth-preserved g c = λ h.
       ready = e.ready;
     }
 
-pub returns-in-err-block : goal.returns-in-err-block
-returns-in-err-block g c =
-    rw (raised _ _ c.from-residual.ensures) (λ h.
+pub returns-in_err-block : goal.returns-in_err-block
+returns-in_err-block g c =
+    rw (raised _ _ c.from_residual.ensures) (λ h.
     let i = c.loop-depth.invariant h in
-    let e = c.in-err-block.ensures.leads i.ready in
+    let e = c.in_err-block.ensures.leads i.ready in
     record {
       call = λ p.
           let s = i.call p in

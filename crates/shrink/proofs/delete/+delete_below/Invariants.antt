@@ -1,4 +1,4 @@
 use Rattle.shrink.proofs.delete.+delete_below.Given as goal
 
-abbrev pub decreases-delete-below : goal.decreases-delete-below
-decreases-delete-below g l = l.level
+abbrev pub decreases-delete_below : goal.decreases-delete_below
+decreases-delete_below g l = l.level
