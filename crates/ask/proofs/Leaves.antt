@@ -1,21 +1,20 @@
 -- The way to a leaf, and what a search in a leaf tells of its pairs.
 use Rattle.std.proofs.Common.{◌≡◌, ℕ, zero, suc, ◌+◌, ◌-◌, ◌<◌, ◌≤◌, Bool, true, false, cond, List, [], ◌∷◌, ◌++◌, map, length, get_or, take, drop, Some, None, filter, Option, Ordering, Less, Equal, Greater, unwrap_or, sym, refl, ap, ◌∙◌, subst, append-nil, arith}
-use Rattle.std.proofs.lemmas.List.{take-append-drop, length-map}
-use Rattle.std.proofs.lemmas.Bool.{both_ways}
+use Rattle.std.proofs.lemmas.List.{take-append-drop}
 use Rattle.std.specs.List.{last_or, AllByRecursion as All}
-use Rattle.std.specs.Ordering.{is_lt, is_le, is_eq}
+use Rattle.std.specs.Ordering.{is_le, is_eq}
 use Rattle.store.specs.Meaning.{Meaning}
 use Rattle.keys.specs.Orders.{Orderly}
-use Rattle.keys.specs.Sorted.{Ascending, how_many}
+use Rattle.keys.specs.Sorted.{Ascending}
 use Rattle.nodes.specs.Nodes.{Entry, Node, Keyed, Leads, entry_at, entries}
-use Rattle.nodes.specs.Finds.{Found, SplitAt, keys_in}
+use Rattle.nodes.specs.Finds.{Found, keys_in}
 use Rattle.plain.specs.Plain.{Sorted, find, floor}
 use Rattle.plain.specs.declared.pair.Pair.{Pair}
 use Rattle.plain.proofs.Alls.{all_map, kept_append, kept_all, kept_none, last_some}
-use Rattle.tree.specs.Tree.{Item, pairs, index_shape, index_unit}
+use Rattle.tree.specs.Tree.{index_shape, index_unit}
 use Rattle.tree.specs.Queries.{floor_down}
 use Rattle.tree.proofs.Units.{Units, shape_units}
-use Rattle.tree.proofs.Flat.{flat_leaf, not_le}
+use Rattle.tree.proofs.Flat.{flat_leaf}
 use Rattle.tree.proofs.Queries.{flat_floor}
 use Rattle.balance.specs.declared.way.Way.{Way}
 use Rattle.balance.specs.Ways.{Led, Peopled}

@@ -1,12 +1,12 @@
 -- The weights of a node's entries, read one by one.
-use Rattle.std.proofs.Common.{◌≡◌, ℕ, zero, suc, ◌+◌, ◌-◌, ◌*◌, ◌^◌, ◌<◌, ◌≤◌, List, map, length, get_or, take, drop, sym, refl, ap, ◌∙◌, subst, arith}
+use Rattle.std.proofs.Common.{◌≡◌, ℕ, zero, suc, ◌+◌, ◌-◌, ◌*◌, ◌<◌, ◌≤◌, List, length, get_or, take, sym, refl, ap, ◌∙◌, subst, arith}
 use Rattle.std.proofs.lemmas.List.{length-map, get_or-map, take_all, drop_all}
 use Rattle.store.specs.Meaning.{Meaning}
 use Rattle.copies.specs.Blocks.{Word}
 use Rattle.nodes.specs.Places.{Form, form, weight_at}
-use Rattle.nodes.specs.Nodes.{Entry, Node, Weighs, Keyed, entries, entry_at}
+use Rattle.nodes.specs.Nodes.{Entry, Weighs, Keyed, entries, entry_at}
 use Rattle.nodes.proofs.Upto.{length_upto, get_or_upto}
-use Rattle.nodes.proofs.Rooms.{room_place, room_same}
+use Rattle.nodes.proofs.Rooms.{room_place}
 use Rattle.balance.specs.declared.cut.Cut.{Cut}
 use Rattle.balance.specs.Cuts.{entry_weight, weights, sum, Mild, Counted, Weighable, Totalled, Heavy, Weighed, Summed, CutAt, Halved}
 use Rattle.tree.proofs.Words.{split_sum}

@@ -7,7 +7,7 @@ use Rattle.store.specs.declared.blocks.Stock.{Stock}
 use Rattle.store.specs.declared.fault.Fault.{Fault}
 use Rattle.store.specs.Faults.{one_deeper, deeper}
 use Rattle.store.specs.Layers.{raised}
-use Rattle.store.specs.Meaning.{Meaning, count, with_at, with_blocks, with_block, taken, written}
+use Rattle.store.specs.Meaning.{Meaning, count, with_at, with_blocks, with_block, written}
 use Rattle.store.specs.Calls.{Take, TakeDone, Give, GiveDone, GiveFails, GetDone, SetDone, Stocked, Deep}
 use Rattle.store.specs.Laws.Changes.{with_at_other, with_at_from}
 use Rattle.cache.specs.Lines.{View, nth, set_view, Noted, Clear}

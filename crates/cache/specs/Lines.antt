@@ -1,5 +1,5 @@
 -- What a table of cache lines holds and answers.
-use Rattle.std.specs.Prelude.{◌≡◌, ℕ, ◌<◌, ◌≤◌, Bool, true, false, not, ◌&&◌, List, [], map, length, set, Some, None, Ok, Err, vec_items, vec_len, Option, Result, ◌==◌, ◌≢◌, slice_index_or, slice_set}
+use Rattle.std.specs.Prelude.{◌≡◌, ℕ, ◌<◌, ◌≤◌, Bool, true, false, not, ◌&&◌, List, [], map, length, Some, None, Ok, Err, vec_items, vec_len, Option, Result, ◌==◌, ◌≢◌, slice_index_or, slice_set}
 use Rattle.store.specs.declared.fault.Fault.{Fault}
 use Rattle.store.specs.declared.fault.Refusal.TheVariants.{Down, Misfit}
 use Rattle.store.specs.Faults.{own_fault}

@@ -1,10 +1,10 @@
 -- Words copied one by one.
-use Rattle.std.proofs.Common.{◌≡◌, ℕ, ◌+◌, ◌-◌, ◌<◌, ◌≤◌, Bool, cond, ◌&&◌, eqb, ltb, leb, ◌⊎◌, sym, refl, ap, ◌∙◌, inl, inr, arith}
+use Rattle.std.proofs.Common.{◌≡◌, ℕ, ◌+◌, ◌-◌, ◌<◌, ◌≤◌, ◌⊎◌, sym, ap, ◌∙◌, inl, inr, arith}
 use Rattle.std.proofs.lemmas.Bool.Decides.{nat_tests}
 use Rattle.store.specs.declared.fault.Fault.{Fault}
 use Rattle.store.specs.Meaning.{Meaning, count, with_at, with_block}
 use Rattle.store.specs.Calls.{GetDone, SetDone, WordFails, Lost}
-use Rattle.copies.specs.Blocks.{Copyable, Word, edit, splice, pasted}
+use Rattle.copies.specs.Blocks.{Copyable, edit, splice, pasted}
 use Rattle.copies.proofs.Changes.{splice_none, splice_up, splice_down, block_self, word_over}
 use Rattle.copies.proofs.Exits.{Kin, lost_later, word_lost}
 

@@ -1,11 +1,11 @@
 -- Edits of one block, one after another.
-use Rattle.std.proofs.Common.{◌≡◌, ℕ, ◌+◌, ◌-◌, ◌<◌, ◌≤◌, Bool, true, cond, ◌&&◌, eqb, ltb, leb, ◌⊎◌, List, get_or, sym, refl, ap, ◌∙◌, subst, inl, inr, ⊎_elim, arith}
+use Rattle.std.proofs.Common.{◌≡◌, ℕ, ◌+◌, ◌-◌, ◌<◌, ◌≤◌, ◌⊎◌, List, get_or, sym, ap, ◌∙◌, ⊎_elim, arith}
 use mathlib.Core.Path.{fun_ext}
 use Rattle.std.proofs.lemmas.Bool.{cases_lt, cases_eq}
 use Rattle.std.proofs.lemmas.Bool.Decides.{nat_tests}
 use Rattle.store.specs.Meaning.{Meaning, with_at, with_block}
 use Rattle.store.specs.Calls.{SetDone}
-use Rattle.copies.specs.Blocks.{edit, splice, pasted, filled, Word}
+use Rattle.copies.specs.Blocks.{edit, splice, pasted, filled}
 use Rattle.copies.proofs.Changes.{with_at_here, with_at_other, splice_none, splice_up, block_self, block_over, word_over}
 
 -- what an edit leaves

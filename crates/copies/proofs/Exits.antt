@@ -1,11 +1,11 @@
 -- What the exit of a `?` returns, and how work begun earlier is lost. Assumes nothing.
-use Rattle.std.proofs.Common.{◌≡◌, ℕ, ◌<◌, true, false, is_err, IsErrAnd, Ok, Err, Result, sym, refl, ap, ◌∙◌, subst, arith}
+use Rattle.std.proofs.Common.{◌≡◌, ℕ, true, is_err, IsErrAnd, Ok, Err, Result, ap, ◌∙◌, arith}
 use Rattle.std.proofs.lemmas.Bool.{both_ways}
 use Rattle.store.specs.declared.fault.Fault.{Fault}
 use Rattle.store.specs.declared.fault.Refusal.{Refusal}
 use Rattle.store.specs.declared.fault.Refusal.TheVariants.{Down}
 use Rattle.store.specs.Meaning.{Meaning, Fell, count, with_at}
-use Rattle.store.specs.Calls.{WordFails, GetDone, SetDone, Get, Set, Deep, Lost}
+use Rattle.store.specs.Calls.{WordFails, SetDone, Get, Set, Deep, Lost}
 use Rattle.store.specs.Calls.WordFails.{word_down, word_missing, word_outside}
 use Rattle.copies.specs.Work.{Work}
 use Rattle.copies.specs.Blocks.{Word, Read, Edited, edit}

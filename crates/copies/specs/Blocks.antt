@@ -1,5 +1,5 @@
 -- What a block's words go through.
-use Rattle.std.specs.Prelude.{◌≡◌, ℕ, ◌+◌, ◌-◌, ◌<◌, ◌≤◌, Bool, true, cond, ◌&&◌, List, nat_le, nat_lt, slice_index}
+use Rattle.std.specs.Prelude.{◌≡◌, ℕ, ◌+◌, ◌-◌, ◌<◌, ◌≤◌, true, cond, ◌&&◌, List, nat_le, nat_lt, slice_index}
 use Rattle.store.specs.Meaning.{Meaning, with_block}
 
 -- block b is granted and has a word at this place

@@ -1,9 +1,9 @@
 -- Footprints, by how often each number occurs in them.
-use Rattle.std.proofs.Common.{◌≡◌, ℕ, ◌+◌, ◌<◌, ◌≤◌, cond, eqb, List, [], ◌∷◌, ◌++◌, sym, refl, ap, ◌∙◌, append_assoc, arith}
+use Rattle.std.proofs.Common.{◌≡◌, ℕ, ◌+◌, ◌≤◌, eqb, List, [], ◌∷◌, ◌++◌, refl, ◌∙◌, arith}
 use Rattle.std.proofs.lemmas.Bool.{eq-eqb, cond-true}
 use Rattle.store.specs.Meaning.{Meaning}
 use Rattle.tree.specs.Lists.{joined}
-use Rattle.held.specs.Held.{times, bit, Owned, Step}
+use Rattle.held.specs.Held.{times, Owned, Step}
 
 pub times_append : (c : ℕ) (xs ys : List ℕ) → times c (xs ++ ys) ≡ times c xs + times c ys
 times_append c [] ys = omega arith

@@ -1,8 +1,7 @@
 -- The keys of a node's entries are the smallest keys of its items, and ascend.
-use Rattle.std.proofs.Common.{◌≡◌, ℕ, suc, List, [], ◌∷◌, ◌++◌, map, Ordering, Less, sym, refl, ap, ◌∙◌, subst}
+use Rattle.std.proofs.Common.{◌≡◌, ℕ, suc, List, [], ◌∷◌, ◌++◌, map, Less, sym, ap, ◌∙◌, subst}
 use Rattle.std.specs.Ordering.{is_le}
 use Rattle.std.specs.List.{AllByRecursion as All}
-use Rattle.keys.specs.Orders.{Orderly}
 use Rattle.keys.specs.Sorted.{Ascending}
 use Rattle.nodes.specs.Nodes.{Entry}
 use Rattle.nodes.specs.Finds.{keys_in}
@@ -11,7 +10,7 @@ use Rattle.plain.specs.declared.pair.Pair.{Pair}
 use Rattle.plain.proofs.Alls.{all_back}
 use Rattle.plain.proofs.Pairs.{sorted_back}
 use Rattle.tree.specs.Lists.{joined}
-use Rattle.tree.specs.Tree.{Item, pairs, Fit, starts}
+use Rattle.tree.specs.Tree.{pairs, Fit, starts}
 use Rattle.tree.proofs.Units.{Units}
 use Rattle.tree.proofs.Flat.{First, first}
 use Rattle.held.specs.Held.{Kind, Lawful, item, words_of, Right}

@@ -1,11 +1,11 @@
 -- What one store call, and one change of a block, do to grants and words.
-use Rattle.std.proofs.Common.{◌≡◌, ℕ, ◌+◌, ◌<◌, ◌≤◌, Bool, true, false, cond, eqb, ◌⊎◌, List, [], ◌∷◌, ◌++◌, sym, refl, ap, ◌∙◌, subst, inl, inr, ⊎_elim, arith}
-use Rattle.std.proofs.lemmas.Bool.{eq-eqb, ne_eqb, cond-true, cond-false, cases_eq, true≢false}
-use Rattle.store.specs.Meaning.{Meaning, Sound, limit, count, free, with_at, with_block, taken, returned}
+use Rattle.std.proofs.Common.{◌≡◌, ℕ, ◌+◌, ◌≤◌, Bool, true, false, eqb, [], ◌∷◌, sym, refl, ap, ◌∙◌, ⊎_elim, arith}
+use Rattle.std.proofs.lemmas.Bool.{eq-eqb, ne_eqb, cond-true, cond-false, cases_eq}
+use Rattle.store.specs.Meaning.{Meaning, limit, count, free, with_at, with_block}
 use Rattle.store.specs.Calls.{TakeDone, GiveDone}
 use Rattle.store.specs.Laws.Changes.{with_at_here, with_at_other}
-use Rattle.store.specs.Laws.Counts.{count_more, count_less}
-use Rattle.held.specs.Held.{times, bit, Owned, Step}
+use Rattle.store.specs.Laws.Counts.{count_more}
+use Rattle.held.specs.Held.{times, bit, Step}
 
 -- a grant that is counted is there
 pub bit_true : (b : Bool) → 1 ≤ bit b → b ≡ true

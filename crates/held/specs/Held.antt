@@ -7,7 +7,6 @@ use Rattle.keys.specs.Orders.{Orderly, Packing}
 use Rattle.nodes.specs.Places.{Form, form, breadth}
 use Rattle.nodes.specs.Nodes.{Entry, entries}
 use Rattle.plain.specs.Plain.{Sorted}
-use Rattle.plain.specs.declared.pair.Pair.{Pair}
 use Rattle.tree.specs.Lists.{joined}
 use Rattle.tree.specs.Tree.{Item, weight, pairs, smallest, Fit, Kids}
 

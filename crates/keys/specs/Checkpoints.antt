@@ -1,7 +1,7 @@
 -- The order and the packing of a checkpoint.
 use Rattle.std.specs.Prelude.{ℕ, ◌+◌, ◌*◌, ◌/◌, ◌%◌, ◌^◌, ◌<◌, List, [], ◌∷◌, slice_index}
 use Rattle.std.specs.declared.cmp.Ordering.{Ordering}
-use Rattle.std.proofs.Common.{mod-lt, arith, lit<}
+use Rattle.std.proofs.Common.{mod-lt, lit<}
 use Rattle.std.specs.Ordering.{ordering_then, nat_cmp}
 use Rattle.keys.specs.declared.checkpoint.Checkpoint.{Checkpoint}
 

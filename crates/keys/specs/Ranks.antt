@@ -1,11 +1,11 @@
 -- What an answer of a comparison says.
-use Rattle.std.specs.Prelude.{◌≡◌, ℕ, ◌<◌, true, false, ℤ, ◌<ℤ◌, refl}
+use Rattle.std.specs.Prelude.{◌≡◌, ℕ, ◌<◌, ℤ, ◌<ℤ◌, refl}
 use Rattle.std.specs.declared.cmp.Ordering.TheVariants.{Less, Equal, Greater}
 use Rattle.std.specs.declared.cmp.Ordering.{Ordering}
 use Rattle.std.proofs.Common.{ap, true≢false}
 use Rattle.std.specs.Int.Signed.{<ℤ_irrefl}
 use Rattle.std.specs.Cmp.{ranks, int_ranks, int_chain, means, below_irrefl, below_chain}
-use Rattle.std.specs.Ordering.{ordering_then, is_lt, is_eq, is_gt, nat_cmp, int_cmp}
+use Rattle.std.specs.Ordering.{ordering_then, is_lt, is_gt, nat_cmp, int_cmp}
 
 -- two answers one after the other are equal only if both are
 pub both_equal : (a b : Ordering) → ordering_then a b ≡ Equal → (a ≡ Equal) × (b ≡ Equal)

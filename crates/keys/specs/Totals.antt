@@ -1,10 +1,10 @@
 -- What the laws of an order give.
-use Rattle.std.specs.Prelude.{◌≡◌, Bool, true, false, ◌≢◌, refl}
+use Rattle.std.specs.Prelude.{◌≡◌, true, ◌≢◌, refl}
 use Rattle.std.specs.declared.cmp.Ordering.TheVariants.{Less, Equal, Greater}
 use Rattle.std.specs.declared.cmp.Ordering.{Ordering}
 use Rattle.std.proofs.Common.{sym, ap, subst, ◌∙◌, true≢false}
 use Rattle.std.specs.Cmp.{IsTotalOrder}
-use Rattle.std.specs.Ordering.{is_le, is_lt, is_eq, is_gt, ordering_reverse}
+use Rattle.std.specs.Ordering.{is_le, is_lt, is_gt, ordering_reverse}
 use Rattle.keys.specs.Orders.{Orderly}
 
 module _ {K : Type 0} {order : K → K → Ordering} (o : Orderly order) where

@@ -1,9 +1,9 @@
 -- Entries copied: three runs of words.
-use Rattle.std.proofs.Common.{◌≡◌, ℕ, ◌+◌, ◌-◌, ◌*◌, ◌<◌, ◌≤◌, ◌⊎◌, sym, refl, ap, ◌∙◌, subst, inl, inr, ⊎_elim, mul-le-mul_left, arith}
+use Rattle.std.proofs.Common.{◌≡◌, ℕ, ◌+◌, ◌*◌, ◌≤◌, ◌∙◌, inr, arith}
 use Rattle.store.specs.Meaning.{Meaning}
 use Rattle.copies.specs.Blocks.{Copyable, edit, pasted}
-use Rattle.copies.proofs.Edits.{paste_then, pasted_in, pasted_out}
-use Rattle.nodes.specs.Places.{Form, weight_at, key_at, child_at, breadth}
+use Rattle.copies.proofs.Edits.{paste_then, pasted_out}
+use Rattle.nodes.specs.Places.{Form, weight_at, key_at, child_at}
 use Rattle.nodes.specs.Nodes.{Rooms, carried}
 use Rattle.nodes.proofs.Rooms.{keys_within, rooms_copy}
 

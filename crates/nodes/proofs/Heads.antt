@@ -1,5 +1,5 @@
 -- A block with room for a header keeps it.
-use Rattle.std.proofs.Common.{◌≡◌, ℕ, ◌<◌, ◌≤◌, ap, ◌∙◌, arith}
+use Rattle.std.proofs.Common.{◌≡◌, ℕ, ◌<◌, ap, ◌∙◌, arith}
 use Rattle.store.specs.Meaning.{Meaning}
 use Rattle.copies.specs.Blocks.{Word, edit}
 use Rattle.copies.proofs.Edits.{edit_granted, edit_width}

@@ -1,5 +1,5 @@
 -- What the verbs do to the lists of entries.
-use Rattle.std.proofs.Common.{◌≡◌, ℕ, ◌+◌, ◌-◌, ◌*◌, ◌<◌, ◌≤◌, ◌⊎◌, List, [], ◌∷◌, ◌++◌, length, take, drop, sym, refl, ap, ◌∙◌, subst, ap₂, inl, inr, arith}
+use Rattle.std.proofs.Common.{◌≡◌, ℕ, ◌+◌, ◌-◌, ◌<◌, ◌≤◌, List, [], ◌∷◌, ◌++◌, length, take, drop, sym, refl, ap, ◌∙◌, ap₂, inl, arith}
 use Rattle.store.specs.Meaning.{Meaning, with_at, with_block}
 use Rattle.copies.specs.Blocks.{edit}
 use Rattle.copies.proofs.Changes.{with_at_here, with_at_other}

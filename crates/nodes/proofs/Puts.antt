@@ -1,5 +1,5 @@
 -- An entry written: its weight, its key and its child, one after another.
-use Rattle.std.proofs.Common.{◌≡◌, ℕ, ◌+◌, ◌*◌, ◌<◌, ◌≤◌, sym, refl, ap, ◌∙◌}
+use Rattle.std.proofs.Common.{◌≡◌, ℕ, ◌∙◌}
 use Rattle.store.specs.Meaning.{Meaning, with_at}
 use Rattle.copies.specs.Blocks.{edit, filled}
 use Rattle.copies.proofs.Edits.{edit_then}

@@ -1,9 +1,9 @@
 -- Blocks with room for a node keep it, and have every place that a node has.
-use Rattle.std.proofs.Common.{◌≡◌, ℕ, ◌+◌, ◌-◌, ◌*◌, ◌<◌, ◌≤◌, sym, ap, ◌∙◌, subst, mul-le-mul_left, arith}
+use Rattle.std.proofs.Common.{◌≡◌, ℕ, ◌+◌, ◌*◌, ◌<◌, ◌≤◌, sym, ap, ◌∙◌, subst, mul-le-mul_left, arith}
 use Rattle.store.specs.Meaning.{Meaning}
 use Rattle.copies.specs.Blocks.{Copyable, Word, edit}
 use Rattle.copies.proofs.Edits.{edit_granted, edit_width}
-use Rattle.nodes.specs.Places.{Form, form, most, weight_at, key_at, child_at, breadth}
+use Rattle.nodes.specs.Places.{Form, form, most, key_at, breadth}
 use Rattle.nodes.specs.Nodes.{Room, Rooms, Countable, Carried, carried}
 
 pub room_same : (m n : Meaning) (φ : Form) (c : ℕ) → n ≡ m → Room φ c m → Room φ c n

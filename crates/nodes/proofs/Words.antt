@@ -1,10 +1,10 @@
 -- Which words of a node a copy of entries, or an entry written, leaves as they were.
-use Rattle.std.proofs.Common.{◌≡◌, ℕ, ◌+◌, ◌-◌, ◌*◌, ◌<◌, ◌≤◌, Bool, true, false, cond, ◌&&◌, eqb, ltb, leb, ◌⊎◌, List, length, get_or, sym, refl, ap, ◌∙◌, subst, inl, inr, ⊎_elim, mul-le-mul_left, arith}
+use Rattle.std.proofs.Common.{◌≡◌, ℕ, ◌+◌, ◌-◌, ◌*◌, ◌<◌, ◌≤◌, ◌⊎◌, List, length, get_or, sym, ◌∙◌, inl, inr, ⊎_elim, mul-le-mul_left, arith}
 use Rattle.std.proofs.lemmas.Bool.{cases_lt}
 use Rattle.std.proofs.lemmas.Bool.Decides.{nat_tests}
 use Rattle.std.proofs.lemmas.List.FromFn.{fill_by_all}
 use Rattle.store.specs.Meaning.{with_at}
-use Rattle.copies.specs.Blocks.{splice, pasted, filled}
+use Rattle.copies.specs.Blocks.{splice, filled}
 use Rattle.copies.proofs.Changes.{with_at_other}
 use Rattle.copies.proofs.Edits.{pasted_in, pasted_out}
 use Rattle.nodes.specs.Places.{Form, weight_at, key_at, child_at}

@@ -1,5 +1,5 @@
 -- A node's entries, in the words of its block.
-use Rattle.std.specs.Prelude.{◌≡◌, ℕ, ◌+◌, ◌-◌, ◌*◌, ◌<◌, ◌≤◌, true, List, [], ◌∷◌, ◌++◌, map, take, drop}
+use Rattle.std.specs.Prelude.{◌≡◌, ℕ, ◌+◌, ◌*◌, ◌<◌, ◌≤◌, true, List, ◌∷◌, ◌++◌, map, take, drop}
 use Rattle.std.specs.List.{range_with_len}
 use Rattle.store.specs.Meaning.{Meaning, with_at, with_block}
 use Rattle.copies.specs.Blocks.{Word, edit, pasted, filled}

@@ -1,10 +1,10 @@
 -- What `use_one` leaves.
-use Rattle.std.proofs.Common.{◌≡◌, ℕ, ◌<◌, ◌≤◌, true, false, Ok, Err, Result, sym, refl, ap, ◌∙◌, arith}
+use Rattle.std.proofs.Common.{◌≡◌, ℕ, ◌≤◌, true, Ok, Err, Result, refl, ap, ◌∙◌, arith}
 use Rattle.std.proofs.lemmas.Bool.{both_ways}
 use Rattle.store.specs.declared.fault.Fault.{Fault}
 use Rattle.store.specs.declared.fault.Refusal.TheVariants.{Down}
 use Rattle.store.specs.Meaning.{Meaning, Sound, Fell, count, taken, written, with_at}
-use Rattle.store.specs.Calls.{Get, Deep, TakeDone, TakeFails, SetDone, GetDone, WordFails}
+use Rattle.store.specs.Calls.{Get, Deep, TakeDone, TakeFails, SetDone, WordFails}
 use Rattle.store.specs.Calls.TakeFails.{take_down, take_full}
 use Rattle.store.specs.Calls.WordFails.{word_down, word_missing, word_outside}
 use Rattle.store.specs.Laws.Changes.{with_at_here}

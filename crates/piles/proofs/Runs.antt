@@ -1,13 +1,13 @@
 -- What a pile over fresh runs leaves in them.
-use Rattle.std.proofs.Common.{◌≡◌, ℕ, ◌+◌, ◌-◌, ◌*◌, ◌<◌, ◌≤◌, min, Bool, true, false, cond, not, ◌&&◌, eqb, ltb, leb, List, length, get_or, Ok, Err, Result, sym, refl, ap, ◌∙◌, subst, ap₂, arith}
+use Rattle.std.proofs.Common.{◌≡◌, ℕ, ◌-◌, ◌*◌, ◌≤◌, Bool, true, false, cond, not, ◌&&◌, eqb, ltb, leb, List, get_or, Ok, Err, Result, sym, refl, ap, ◌∙◌, subst, arith}
 use Rattle.std.proofs.lemmas.Bool.{both_ways, and_from, and_parts, cond-true, lt-ltb, leb-true}
 use Rattle.store.specs.declared.fault.Fault.{Fault}
 use Rattle.store.specs.declared.fault.Refusal.TheVariants.{NoRoom}
 use Rattle.store.specs.Faults.{one_deeper}
-use Rattle.store.specs.Meaning.{Shape, Meaning, limit, count, count_to, with_at, taken}
+use Rattle.store.specs.Meaning.{Shape, Meaning, limit, count, with_at, taken}
 use Rattle.store.specs.Laws.Counts.{count_none, count_past}
 use Rattle.store.specs.Laws.Changes.{with_at_here}
-use Rattle.stores.specs.Table.{in_use, word_in, in_row, table, blank, most_blocks, Fits}
+use Rattle.stores.specs.Table.{in_use, word_in, in_row, table, blank, Fits}
 use Rattle.quota.specs.Quota.{quota_shape}
 use Rattle.cache.specs.Cache.{cached_shape}
 use Rattle.cache.specs.Lines.{Made}
@@ -17,7 +17,7 @@ use Rattle.piles.specs.One.{Use, UseFails, with_one}
 use Rattle.piles.specs.One.UseFails.{use_full, use_lost}
 use Rattle.piles.specs.Runs.{blocks_in, runs_mean, Ran, RunsFail, TwoQuotas, Cached, Lines, QuotaCache, unmade_by}
 use Rattle.piles.specs.Runs.CacheFail.{no_lines, pile_fail}
-use Rattle.piles.specs.Runs.RunsFail.{runs_full, runs_unfit}
+use Rattle.piles.specs.Runs.RunsFail.{runs_full}
 
 pub blank_none : (w c : ℕ) → count (blank w c) ≡ 0
 blank_none w c = count_past (λ b. false) 0 limit (omega arith) (λ b l h. refl) ∙ count_none (λ b. false)

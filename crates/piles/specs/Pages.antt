@@ -1,8 +1,7 @@
 -- What a pile over a fresh paged store answers, and what it leaves in the runs.
 use Rattle.std.specs.Prelude.{◌≡◌, ℕ, ◌*◌, ◌/◌, ◌<◌, ◌≤◌, min, cond, List, length, Ok, Err, Result, nat_le, slice_index_or}
 use Rattle.store.specs.declared.fault.Fault.{Fault}
-use Rattle.store.specs.declared.fault.Refusal.TheVariants.{NoRoom, Misfit}
-use Rattle.store.specs.Faults.{own_fault}
+use Rattle.store.specs.declared.fault.Refusal.TheVariants.{NoRoom}
 use Rattle.store.specs.Meaning.{Meaning}
 use Rattle.stores.specs.Table.{blank}
 use Rattle.paged.specs.declared.paged.Cause.{Cause}

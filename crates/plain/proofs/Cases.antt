@@ -1,5 +1,5 @@
 -- The calls keep a list ascending, and a refusal changes nothing.
-use Rattle.std.proofs.Common.{◌≡◌, ℕ, Bool, true, false, cond, eqb, leb, List, [], ◌∷◌, ◌++◌, length, Some, None, Ok, Err, Option, Result, Ordering, sym, refl, ap, ◌∙◌, subst, arith}
+use Rattle.std.proofs.Common.{◌≡◌, ℕ, Bool, true, false, cond, eqb, leb, List, length, Some, None, Ok, Err, Option, Result, Ordering, refl, arith}
 use Rattle.keys.specs.Orders.{Orderly}
 use Rattle.plain.specs.Plain.{Plain, Call, insert, delete, find_key, floor_key, rank_key, report, read_tally, reopen, step, settled, refuses_insert, refuses_delete, over, within, Sorted, present, put, cut}
 use Rattle.plain.specs.Laws.{Refusals}

@@ -2,11 +2,11 @@
 use Rattle.std.proofs.Common.{◌≡◌, ℕ, ◌+◌, ◌-◌, Bool, true, false, cond, ◌&&◌, List, [], ◌∷◌, ◌++◌, length, Some, None, filter, Option, Ordering, Less, Equal, Greater, unwrap_or, sym, refl, ap, ◌∙◌, subst, arith}
 use Rattle.std.proofs.lemmas.Bool.{both_ways}
 use Rattle.std.specs.List.{last_or, AllByRecursion as All}
-use Rattle.std.specs.Ordering.{is_lt, is_le, is_eq, is_ge, is_gt}
+use Rattle.std.specs.Ordering.{is_lt, is_le, is_eq, is_ge}
 use Rattle.keys.specs.Orders.{Orderly}
-use Rattle.keys.specs.Totals.{greater_above, less_below}
+use Rattle.keys.specs.Totals.{greater_above}
 use Rattle.plain.specs.Plain.{Sorted, find, floor, rank, up_to, within}
-use Rattle.plain.specs.Laws.{HandleOf, LargestAt, Floor, Interval}
+use Rattle.plain.specs.Laws.{HandleOf, Floor}
 use Rattle.plain.specs.declared.pair.Pair.{Pair}
 use Rattle.plain.proofs.Alls.{all_map, all_any, kept_none, how_many_none, last_some}
 use Rattle.plain.proofs.Pairs.{High}

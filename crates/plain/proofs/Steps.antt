@@ -1,8 +1,8 @@
 -- Resume finds the last step of a case.
-use Rattle.std.proofs.Common.{◌≡◌, ℕ, ◌%◌, ◌^◌, ◌<◌, ◌≤◌, Bool, true, false, cond, eqb, List, [], ◌∷◌, ◌++◌, Some, None, Option, Ordering, Less, Equal, Greater, sym, refl, ap, ◌∙◌, subst, arith}
+use Rattle.std.proofs.Common.{◌≡◌, ℕ, ◌^◌, ◌<◌, ◌≤◌, Bool, true, false, cond, eqb, List, ◌∷◌, Some, None, Option, Ordering, Less, Equal, Greater, sym, refl, ap, ◌∙◌, subst, arith}
 use Rattle.std.proofs.lemmas.Bool.{both_ways, eqb-true, eqb-false}
 use Rattle.std.specs.Cmp.{ranks}
-use Rattle.std.specs.Ordering.{ordering_then, MatchOrdering, is_le, is_lt, is_gt, nat_cmp}
+use Rattle.std.specs.Ordering.{ordering_then, MatchOrdering, is_le, nat_cmp}
 use Rattle.std.specs.List.{AllByRecursion as All}
 use Rattle.keys.specs.Checkpoints.{order}
 use Rattle.keys.specs.Orders.{Orderly}

@@ -1,15 +1,14 @@
 -- Nodes, taken and in all; places in a block.
-use Rattle.std.proofs.Common.{◌≡◌, ℕ, zero, suc, ◌+◌, ◌*◌, ◌^◌, ◌<◌, ◌≤◌, Bool, true, false, cond, eqb, ltb, List, [], ◌∷◌, ◌++◌, length, Ordering, sym, refl, ap, ◌∙◌, pow-suc, le_of_mul-le-mul_right, arith}
-use native.Mathlib.Nat.{pow-zero}
-use Rattle.std.proofs.lemmas.Bool.{leb-true, leb-false, eqb-true, eq-eqb, ne_eqb}
+use Rattle.std.proofs.Common.{◌≡◌, ℕ, zero, suc, ◌+◌, ◌*◌, ◌<◌, ◌≤◌, Bool, true, false, cond, eqb, ltb, List, [], ◌∷◌, ◌++◌, length, Ordering, refl, ap, le_of_mul-le-mul_right, arith}
+use Rattle.std.proofs.lemmas.Bool.{eq-eqb, ne_eqb}
 use Rattle.std.specs.List.{AllByRecursion as All}
 use Rattle.tree.specs.Lists.{total, onto}
-use Rattle.tree.specs.Tree.{Shape, unit_of, Item, Tree, Weighed, Update, adds, drops, Kids, Fit, weight, left, right, over, grown, split_above, starts, route, ins, del, ins_mark, del_mark, under, merged, merged_mark, fused, fused_mark, mended, raised, lowered, updated, mark}
+use Rattle.tree.specs.Tree.{Item, Tree, Weighed, Update, adds, drops, Kids, Fit, weight, left, right, over, grown, split_above, starts, route, ins, del, ins_mark, del_mark, under, merged, merged_mark, fused, fused_mark, mended, lowered, updated, mark}
 use Rattle.tree.specs.Counts.{nodes, blocks, full, full_below, taken, gives, levels, lone, given_back}
 use Rattle.tree.specs.declared.mark.Mark.{Mark}
-use Rattle.tree.specs.declared.mark.Mark.TheVariants.{Nothing, Split, Merge, MergeSplit}
-use Rattle.tree.proofs.Lists.{total_append, total_onto, total_none, total_one, all_of_onto, halves, seek_back}
-use Rattle.tree.proofs.Units.{Units, unit_some, shape_units}
+use Rattle.tree.specs.declared.mark.Mark.TheVariants.{Nothing, Merge, MergeSplit}
+use Rattle.tree.proofs.Lists.{total_append, total_onto, total_none, all_of_onto, halves, seek_back}
+use Rattle.tree.proofs.Units.{Units, unit_some}
 use Rattle.tree.proofs.Levels.{kids}
 use Rattle.tree.proofs.Insert.{inserted}
 

@@ -1,16 +1,14 @@
 -- A deletion, level by level.
-use Rattle.std.proofs.Common.{◌≡◌, ℕ, zero, suc, ◌+◌, ◌-◌, ◌*◌, ◌<◌, ◌≤◌, Bool, true, false, cond, eqb, ltb, leb, List, [], ◌∷◌, ◌++◌, length, is_some, Some, None, Ordering, sym, refl, ap, ◌∙◌, arith}
+use Rattle.std.proofs.Common.{◌≡◌, ℕ, zero, suc, ◌+◌, ◌*◌, ◌≤◌, Bool, true, false, cond, eqb, ltb, List, [], ◌∷◌, ◌++◌, length, is_some, Some, Ordering, sym, refl, ap, arith}
 use Rattle.std.proofs.lemmas.Bool.{leb-true, leb-false, eqb-true, false≢true}
 use Rattle.std.specs.Ordering.{is_eq}
 use Rattle.std.specs.List.{AllByRecursion as All}
 use Rattle.plain.specs.Plain.{find, present, cut}
 use Rattle.plain.specs.declared.pair.Pair.{Pair}
 use Rattle.plain.proofs.Alls.{all_append}
-use Rattle.tree.specs.Lists.{total, onto, seek, Place}
-use Rattle.tree.specs.Tree.{Item, weight, Fit, Kids, under, merged, merged_mark, fused, fused_mark, mended, route, starts, del, del_mark}
+use Rattle.tree.specs.Lists.{total, onto}
+use Rattle.tree.specs.Tree.{Item, weight, Fit, Kids, under, merged, fused, fused_mark, mended, route, starts, del, del_mark}
 use Rattle.tree.specs.Queries.{find_down}
-use Rattle.tree.specs.declared.mark.Mark.{Mark}
-use Rattle.tree.specs.declared.mark.Mark.TheVariants.{Nothing, Split, Merge, MergeSplit}
 use Rattle.tree.proofs.Lists.{total_append, total_onto, all_onto, all_of_onto, seek_back, length_onto, total_none, all_unit}
 use Rattle.tree.proofs.Units.{Units, unit_some}
 use Rattle.tree.proofs.Strains.{price, here_strain, strains}

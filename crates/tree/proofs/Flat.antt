@@ -1,5 +1,5 @@
 -- What an update does to the pairs of a tree in order.
-use Rattle.std.proofs.Common.{◌≡◌, ℕ, zero, suc, ◌*◌, ◌≤◌, Bool, true, false, cond, ltb, List, [], ◌∷◌, ◌++◌, length, is_some, Some, Ordering, Less, Equal, Greater, sym, refl, ap, ◌∙◌, append_assoc, append-nil, arith}
+use Rattle.std.proofs.Common.{◌≡◌, ℕ, zero, suc, ◌*◌, Bool, true, false, cond, ltb, List, [], ◌∷◌, ◌++◌, length, is_some, Some, Ordering, Less, Equal, Greater, sym, refl, ap, ◌∙◌, append_assoc, append-nil, arith}
 use Rattle.std.proofs.lemmas.List.{length-append}
 use Rattle.std.proofs.lemmas.Bool.{true≢false}
 use Rattle.std.specs.Ordering.{is_le}
@@ -11,7 +11,7 @@ use Rattle.plain.specs.declared.pair.Pair.{Pair}
 use Rattle.plain.proofs.Alls.{all_map, all_back}
 use Rattle.plain.proofs.Pairs.{Low, High, put_after, put_before, find_after, find_before, cut_after, cut_before, sorted_front, sorted_back, sorted_across}
 use Rattle.plain.proofs.Floors.{highs}
-use Rattle.tree.specs.Lists.{total, onto, joined, Place, seek}
+use Rattle.tree.specs.Lists.{total, onto, joined}
 use Rattle.tree.specs.Tree.{Item, smallest, Kids, Fit, weight, pairs, starts, left, right, split_above, grown, merged, fused, mended, under, route, ins, del}
 use Rattle.tree.specs.Queries.{find_down}
 use Rattle.tree.proofs.Lists.{all_of_onto, joined_append, joined_onto, halves, Stops, Passed, seek_back, seek_stops, seek_passed}

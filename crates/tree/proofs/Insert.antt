@@ -1,5 +1,5 @@
 -- An insertion, level by level.
-use Rattle.std.proofs.Common.{◌≡◌, ℕ, zero, suc, ◌+◌, ◌-◌, ◌*◌, ◌<◌, ◌≤◌, Bool, true, false, cond, eqb, ltb, leb, List, [], ◌∷◌, ◌++◌, length, Ordering, sym, refl, ap, ◌∙◌, arith}
+use Rattle.std.proofs.Common.{◌≡◌, ℕ, zero, suc, ◌+◌, ◌≤◌, Bool, true, false, cond, eqb, ltb, List, [], ◌∷◌, ◌++◌, length, Ordering, sym, refl, ap, arith}
 use Rattle.std.proofs.lemmas.Bool.{eqb-true}
 use Rattle.std.proofs.lemmas.List.{length-append}
 use Rattle.std.specs.List.{AllByRecursion as All}
@@ -7,14 +7,14 @@ use Rattle.std.specs.Ordering.{is_le}
 use Rattle.plain.specs.Plain.{put}
 use Rattle.plain.specs.declared.pair.Pair.{Pair}
 use Rattle.plain.proofs.Alls.{all_append}
-use Rattle.tree.specs.Lists.{total, onto, seek, Place}
+use Rattle.tree.specs.Lists.{total, onto}
 use Rattle.tree.specs.Tree.{Item, weight, Fit, Kids, over, grown, route, starts, ins, ins_mark}
 use Rattle.tree.specs.declared.mark.Mark.{Mark}
 use Rattle.tree.specs.declared.mark.Mark.TheVariants.{Nothing, Split, Merge, MergeSplit}
 use Rattle.tree.proofs.Lists.{total_append, total_onto, all_onto, all_of_onto, seek_back, length_onto, total_none, all_unit}
 use Rattle.tree.proofs.Units.{Units}
 use Rattle.tree.proofs.Strains.{price, here_strain, strains}
-use Rattle.tree.proofs.Levels.{here_up, relief, Grown, grows, kids}
+use Rattle.tree.proofs.Levels.{here_up, grows, kids}
 
 -- what one level pays
 price_le : (u : ℕ) (m : Mark) → price u m ≤ u + 1

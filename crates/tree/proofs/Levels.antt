@@ -1,10 +1,10 @@
 -- One level: what a Split does to weights and strains.
-use Rattle.std.proofs.Common.{◌≡◌, ℕ, zero, suc, ◌+◌, ◌-◌, ◌*◌, ◌<◌, ◌≤◌, max, Bool, true, false, cond, eqb, ltb, leb, List, [], ◌∷◌, ◌++◌, length, sym, refl, ap, ◌∙◌, arith}
-use Rattle.std.proofs.lemmas.Bool.{leb-true, leb-false, eqb-true}
+use Rattle.std.proofs.Common.{◌≡◌, ℕ, zero, suc, ◌+◌, ◌*◌, ◌≤◌, Bool, true, false, cond, eqb, List, [], ◌∷◌, ◌++◌, length, sym, refl, ap, ◌∙◌, arith}
+use Rattle.std.proofs.lemmas.Bool.{leb-true, leb-false}
 use Rattle.std.specs.List.{AllByRecursion as All}
 use Rattle.plain.proofs.Alls.{all_front, all_back}
-use Rattle.tree.specs.Lists.{total, onto, first_half, second_half}
-use Rattle.tree.specs.Tree.{Item, weight, Fit, Kids, left, right, split_above, over, grown}
+use Rattle.tree.specs.Lists.{total}
+use Rattle.tree.specs.Tree.{Item, weight, Fit, Kids, left, right, over, grown}
 use Rattle.tree.proofs.Lists.{total_append, halves, half_low, half_high}
 use Rattle.tree.proofs.Units.{Units, unit_some}
 use Rattle.tree.proofs.Strains.{strain, here_strain, strains}

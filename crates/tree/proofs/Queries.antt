@@ -1,19 +1,19 @@
 -- Going down the tree answers as the plain list does.
-use Rattle.std.proofs.Common.{◌≡◌, ℕ, zero, suc, ◌+◌, ◌-◌, ◌≤◌, Bool, true, false, cond, ◌&&◌, List, [], ◌∷◌, ◌++◌, length, Some, None, filter, Option, Ordering, Less, Equal, Greater, sym, refl, ap, ◌∙◌, append-nil, arith}
+use Rattle.std.proofs.Common.{◌≡◌, ℕ, zero, suc, ◌+◌, Bool, true, false, cond, ◌&&◌, List, [], ◌∷◌, ◌++◌, length, None, filter, Ordering, Less, Greater, sym, refl, ap, ◌∙◌, append-nil, arith}
 use Rattle.std.specs.List.{last_or, AllByRecursion as All}
 use Rattle.std.specs.Ordering.{is_lt, is_le, is_ge}
 use Rattle.keys.specs.Orders.{Orderly}
 use Rattle.keys.specs.Sorted.{how_many}
-use Rattle.plain.specs.Plain.{Sorted, find, floor, rank, up_to, within}
+use Rattle.plain.specs.Plain.{Sorted, floor, rank, up_to, within}
 use Rattle.plain.specs.declared.pair.Pair.{Pair}
-use Rattle.plain.proofs.Alls.{all_map, kept_append, kept_none, kept_all, how_many_append, how_many_none, how_many_all, last_append}
+use Rattle.plain.proofs.Alls.{all_map, kept_append, kept_none, how_many_append, how_many_none, how_many_all, last_append}
 use Rattle.plain.proofs.Pairs.{Low, High, sorted_front, sorted_back}
 use Rattle.plain.proofs.Floors.{counted}
 use Rattle.tree.specs.Lists.{total, onto, joined, while}
 use Rattle.tree.specs.Tree.{Item, Tree, Rules, Kids, Fit, weight, pairs, content, starts, route}
-use Rattle.tree.specs.Queries.{find_down, floor_down, rank_down, up_to_down, within_down}
+use Rattle.tree.specs.Queries.{floor_down, rank_down, up_to_down, within_down}
 use Rattle.tree.specs.Laws.{Answers}
-use Rattle.tree.proofs.Lists.{total_onto, Passed, seek_passed, seek_stops}
+use Rattle.tree.proofs.Lists.{total_onto, Passed, seek_passed}
 use Rattle.tree.proofs.Units.{Units}
 use Rattle.tree.proofs.Levels.{kids}
 use Rattle.tree.proofs.Flat.{flat_leaf, flat_find, First, first, Front, opened, above, count_pairs}

@@ -1,9 +1,9 @@
 -- An update of a whole tree keeps the rules of weight, and pays for its rebalancings.
-use Rattle.std.proofs.Common.{◌≡◌, ℕ, zero, suc, ◌+◌, ◌-◌, ◌*◌, ◌<◌, ◌≤◌, Bool, true, false, cond, eqb, ltb, leb, List, [], ◌∷◌, ◌++◌, length, is_some, Ordering, sym, refl, ap, ◌∙◌, inl, inr, arith}
+use Rattle.std.proofs.Common.{◌≡◌, ℕ, zero, suc, ◌+◌, ◌*◌, ◌<◌, ◌≤◌, Bool, true, false, cond, eqb, ltb, [], ◌∷◌, is_some, Ordering, sym, refl, ap, inl, inr, arith}
 use Rattle.std.proofs.lemmas.Bool.{leb-true, leb-false, eqb-true, cases_lt}
 use Rattle.std.specs.List.{AllByRecursion as All}
 use Rattle.tree.specs.Lists.{total}
-use Rattle.tree.specs.Tree.{Item, Tree, Weighed, Update, adds, drops, weight, size, Fit, Kids, left, right, over, ins, ins_mark, del, del_mark, lowered, raised, updated, mark}
+use Rattle.tree.specs.Tree.{Item, Tree, Weighed, adds, drops, weight, size, Fit, Kids, left, right, over, ins, ins_mark, del, lowered, raised, updated, mark}
 use Rattle.tree.specs.Queries.{find_down}
 use Rattle.tree.specs.declared.mark.Mark.{Mark}
 use Rattle.tree.specs.declared.mark.Mark.TheVariants.{Nothing, Split}

@@ -1,14 +1,13 @@
 -- Lists of updates: the induction.
-use Rattle.std.proofs.Common.{◌≡◌, ℕ, zero, suc, ◌+◌, ◌*◌, ◌<◌, ◌≤◌, Bool, true, false, cond, not, leb, List, [], ◌∷◌, ◌++◌, length, is_some, Some, None, Ordering, sym, refl, ap, ◌∙◌, append-nil, arith}
+use Rattle.std.proofs.Common.{◌≡◌, ℕ, zero, suc, ◌+◌, ◌*◌, ◌≤◌, Bool, true, false, cond, not, leb, List, [], ◌∷◌, ◌++◌, length, is_some, Some, None, Ordering, sym, refl, ap, ◌∙◌, append-nil, arith}
 use Rattle.std.proofs.lemmas.Bool.{false≢true, leb-false}
 use Rattle.keys.specs.Orders.{Orderly}
 use Rattle.plain.specs.Plain.{present, put, cut}
-use Rattle.plain.specs.declared.pair.Pair.{Pair}
 use Rattle.plain.proofs.Pairs.{sorted_put, sorted_cut}
 use Rattle.tree.specs.Lists.{joined}
-use Rattle.tree.specs.Tree.{Item, Tree, Update, adds, drops, Rules, Weighed, pairs, content, size, empty, over, left, right, ins, del, raised, lowered, updated, mark}
+use Rattle.tree.specs.Tree.{Item, Tree, Update, adds, drops, Rules, pairs, content, empty, over, left, right, ins, del, raised, lowered, updated, mark}
 use Rattle.tree.specs.Queries.{find_down}
-use Rattle.tree.specs.Runs.{counts, listed, accepts, plain, accepted, takes_up, next, grown_by, rebalancings}
+use Rattle.tree.specs.Runs.{counts, listed, plain, accepted, takes_up, next, grown_by, rebalancings}
 use Rattle.tree.specs.declared.mark.Mark.{Mark}
 use Rattle.tree.specs.declared.mark.Mark.TheVariants.{Nothing, Split, Merge, MergeSplit}
 use Rattle.tree.proofs.Units.{Units}

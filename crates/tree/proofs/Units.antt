@@ -1,5 +1,5 @@
 -- What the laws ask of units, and that every shape has it.
-use Rattle.std.proofs.Common.{◌≡◌, ℕ, zero, suc, ◌+◌, ◌*◌, ◌^◌, ◌≤◌, mul-le-mul_left, pow-suc, arith}
+use Rattle.std.proofs.Common.{ℕ, zero, suc, ◌*◌, ◌^◌, ◌≤◌, mul-le-mul_left, pow-suc, arith}
 use native.Mathlib.Nat.{pow-zero}
 use Rattle.tree.specs.Tree.{Shape, unit_of}
 

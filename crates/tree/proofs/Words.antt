@@ -1,15 +1,14 @@
 -- The splits and the way down are those of the rules.
-use Rattle.std.proofs.Common.{◌≡◌, ℕ, zero, suc, ◌+◌, ◌-◌, ◌*◌, ◌/◌, ◌<◌, ◌≤◌, Bool, true, false, cond, leb, ◌⊎◌, List, [], ◌∷◌, ◌++◌, map, length, get_or, take, drop, Ordering, sym, refl, ap, ◌∙◌, inl, inr, arith}
+use Rattle.std.proofs.Common.{◌≡◌, ℕ, zero, suc, ◌+◌, ◌-◌, ◌*◌, ◌/◌, ◌<◌, ◌≤◌, Bool, true, false, ◌⊎◌, List, [], ◌∷◌, ◌++◌, map, length, get_or, take, drop, Ordering, sym, refl, ap, ◌∙◌, inl, inr, arith}
 use Rattle.std.proofs.lemmas.List.{take_at, drop_at, get_or_at, get_or-append_right, length-append, append_assoc, take-map, drop-map, length-map}
 use Rattle.std.proofs.lemmas.Bool.{le-leb, cases_order, both_ways}
-use Rattle.std.specs.Ordering.{is_le}
 use Rattle.std.specs.List.{AllByRecursion as All}
 use Rattle.keys.specs.Orders.{Orderly}
 use Rattle.plain.specs.Plain.{Sorted}
-use Rattle.tree.specs.Lists.{total, first_half, second_half, onto, joined, Place, seek}
+use Rattle.tree.specs.Lists.{total, first_half, second_half, onto, joined}
 use Rattle.tree.specs.Tree.{Item, Fit, weight, pairs, starts, left, right, route}
 use Rattle.tree.specs.Laws.{Largest, LastChild, At}
-use Rattle.tree.proofs.Lists.{total_append, total_one, length_onto, halves, half_low, all_of_onto, Stops, Passed, seek_back, seek_stops, seek_passed}
+use Rattle.tree.proofs.Lists.{total_one, length_onto, halves, half_low, Passed, seek_back, seek_passed}
 use Rattle.tree.proofs.Units.{Units}
 use Rattle.tree.proofs.Flat.{later_apart}
 

@@ -1,5 +1,5 @@
 -- How many nodes a tree has, how many an insertion takes, and how many a deletion gives back.
-use Rattle.std.specs.Prelude.{ℕ, zero, suc, ◌+◌, ◌*◌, Bool, cond, List, [], ◌∷◌, ◌==◌}
+use Rattle.std.specs.Prelude.{ℕ, zero, suc, ◌+◌, ◌*◌, Bool, cond, [], ◌∷◌, ◌==◌}
 use Rattle.std.specs.declared.cmp.Ordering.{Ordering}
 use Rattle.tree.specs.Lists.{total}
 use Rattle.tree.specs.Tree.{Item, Tree, drops, weight, route, del, mark}

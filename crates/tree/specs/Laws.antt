@@ -2,7 +2,7 @@
 use Rattle.std.specs.Prelude.{◌≡◌, ℕ, suc, ◌+◌, ◌-◌, ◌*◌, ◌/◌, ◌<◌, ◌≤◌, true, false, ◌⊎◌, List, [], ◌∷◌, ◌++◌, length, take, drop, slice_index_or}
 use Rattle.std.specs.declared.cmp.Ordering.{Ordering}
 use Rattle.std.specs.List.{AllByRecursion as All}
-use Rattle.plain.specs.Plain.{Sorted, find, floor, rank, up_to, within}
+use Rattle.plain.specs.Plain.{Sorted, find, floor, rank, within}
 use Rattle.plain.specs.declared.pair.Pair.{Pair}
 use Rattle.tree.specs.Lists.{total, joined, onto, Place}
 use Rattle.tree.specs.Tree.{Shape, unit_of, Item, Tree, Update, adds, drops, weight, pairs, size, content, empty, Fit, Rules, left, right, starts, route, updated, mark}

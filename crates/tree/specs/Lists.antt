@@ -1,5 +1,5 @@
 -- Lists whose elements weigh something; halves of a list, and a place in it.
-use Rattle.std.specs.Prelude.{ℕ, ◌+◌, ◌*◌, Bool, true, false, cond, List, [], ◌∷◌, ◌++◌, nat_le}
+use Rattle.std.specs.Prelude.{ℕ, ◌+◌, ◌*◌, Bool, cond, List, [], ◌∷◌, ◌++◌, nat_le}
 
 -- the sum of w over a list
 abbrev pub total : {X : Type 0} → (X → ℕ) → List X → ℕ

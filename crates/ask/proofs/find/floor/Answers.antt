@@ -1,6 +1,5 @@
-use Rattle.std.proofs.Common.{◌≡◌, Some, sym, refl, ap, ◌∙◌, arith}
+use Rattle.std.proofs.Common.{Some, ap, ◌∙◌, arith}
 use Rattle.copies.proofs.Exits.{raised, lost_later, kin_same}
-use Rattle.nodes.specs.Nodes.{Room}
 use Rattle.nodes.proofs.Rooms.{room_same}
 use Rattle.tree.specs.Tree.{index_unit}
 use Rattle.held.specs.Held.{Kind, kind}

@@ -1,4 +1,4 @@
-use Rattle.std.proofs.Common.{◌≡◌, refl}
+use Rattle.std.proofs.Common.{refl}
 use Rattle.copies.proofs.Exits.{raised, lost_later, kin_same}
 use Rattle.held.specs.Held.{Kind, kind, Lawful}
 use Rattle.ask.proofs.Leaves.{below_start, below_turn, below_peopled, leaf_reached}

@@ -1,4 +1,4 @@
-use Rattle.std.proofs.Common.{◌+◌, ◌<◌, ◌≤◌, arith}
+use Rattle.std.proofs.Common.{◌≤◌, arith}
 use Rattle.balance.specs.Limits.{limit_of}
 use Rattle.balance.proofs.Levels.{limit_grows}
 use Rattle.grow.proofs.insert.insert.Goals as goal

@@ -1,4 +1,4 @@
-use Rattle.std.proofs.Common.{◌≡◌, ap, ◌∙◌, arith}
+use Rattle.std.proofs.Common.{◌≡◌, ◌∙◌, arith}
 use Rattle.copies.specs.Blocks.{edit, filled}
 use Rattle.copies.proofs.Exits.{raised, lost_later, kin_edit, word_lost}
 use Rattle.copies.proofs.Edits.{filled_none, filled_more}

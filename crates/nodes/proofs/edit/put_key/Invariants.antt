@@ -1,7 +1,7 @@
 use Rattle.std.proofs.Common.{◌≡◌}
 use Rattle.store.specs.Calls.{Left}
 use Rattle.copies.specs.Blocks.{edit, filled}
-use Rattle.nodes.specs.Places.{form, key_at}
+use Rattle.nodes.specs.Places.{form}
 use Rattle.nodes.specs.Nodes.{Room}
 use Rattle.nodes.proofs.edit.put_key.Given as goal
 

@@ -1,8 +1,8 @@
 use Rattle.std.proofs.Common.{refl, arith}
-use Rattle.store.specs.Meaning.{Meaning, with_at}
+use Rattle.store.specs.Meaning.{with_at}
 use Rattle.copies.specs.Blocks.{Word, Edited, filled}
 use Rattle.copies.proofs.Exits.{kin_edit, set_work, work_on}
-use Rattle.copies.proofs.Edits.{filled_none, filled_more, filled_step, edit_granted, edit_width}
+use Rattle.copies.proofs.Edits.{filled_none, filled_more, filled_step}
 use Rattle.nodes.specs.Headers.{Headroom, header_words}
 use Rattle.nodes.proofs.Heads.{head_place}
 use Rattle.nodes.proofs.header.put_header.Goals as goal

@@ -1,5 +1,5 @@
 use Rattle.copies.specs.Blocks.{Word, Read}
-use Rattle.std.proofs.Common.{◌≡◌, sym, refl, subst}
+use Rattle.std.proofs.Common.{sym, refl, subst}
 use Rattle.copies.proofs.Exits.{kin_same, get_work, work_on}
 use Rattle.nodes.specs.Places.{weight_at}
 use Rattle.nodes.specs.Nodes.{Weighs}

@@ -1,10 +1,9 @@
-use Rattle.std.proofs.Common.{◌≡◌, ◌+◌, ◌-◌, ◌/◌, sym, refl, ap, ◌∙◌, arith}
+use Rattle.std.proofs.Common.{◌+◌, ◌-◌, ◌/◌, sym, refl, ap, ◌∙◌, arith}
 use Rattle.std.proofs.lemmas.Bool.{both_ways}
 use Rattle.std.specs.Prelude.{◌==◌}
 use Rattle.std.specs.Ordering.{ordering_index}
 use Rattle.copies.proofs.Exits.{raised, lost_later, kin_same}
 use Rattle.nodes.specs.Places.{form}
-use Rattle.nodes.specs.Finds.{key_of}
 use Rattle.nodes.proofs.Rooms.{room_same, countable}
 use Rattle.nodes.proofs.Searches.{between_all, between_up, between_met, key_there, found}
 use Rattle.nodes.proofs.search.keys_up_to.Goals as goal

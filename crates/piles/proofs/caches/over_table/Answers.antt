@@ -1,4 +1,4 @@
-use Rattle.std.proofs.Common.{◌≡◌, ◌≤◌, sym, ap, subst}
+use Rattle.std.proofs.Common.{◌≤◌, sym, ap, subst}
 use Rattle.piles.specs.Runs.{Cached}
 use Rattle.piles.specs.Runs.RunsFail.{runs_unfit}
 use Rattle.piles.proofs.Runs.{run_cached}

@@ -1,4 +1,4 @@
-use Rattle.std.proofs.Common.{◌≡◌, sym, ap, ◌∙◌, subst}
+use Rattle.std.proofs.Common.{sym, ap, ◌∙◌, subst}
 use Rattle.store.specs.Calls.{Left}
 use Rattle.quota.specs.Quota.{quota_shape}
 use Rattle.piles.specs.One.{Use}

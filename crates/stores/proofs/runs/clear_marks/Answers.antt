@@ -1,4 +1,4 @@
-use Rattle.std.proofs.Common.{◌≡◌, set, sym, ap, ◌∙◌, zero-add, arith}
+use Rattle.std.proofs.Common.{set, sym, ap, ◌∙◌, zero-add, arith}
 use Rattle.stores.specs.Table.{cleared}
 use Rattle.stores.specs.Laws.Clearing.{cleared_none, cleared_more, cleared_top}
 use Rattle.stores.proofs.runs.clear_marks.Goals as goal
