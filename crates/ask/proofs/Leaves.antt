@@ -1,7 +1,7 @@
 -- The way to a leaf, and what a search in a leaf tells of its pairs.
 use Rattle.std.proofs.Common.{◌≡◌, ℕ, zero, suc, ◌+◌, ◌-◌, ◌<◌, ◌≤◌, Bool, true, false, cond, List, [], ◌∷◌, ◌++◌, map, length, get_or, take, drop, Some, None, filter, Option, Ordering, Less, Equal, Greater, unwrap_or, sym, refl, ap, ◌∙◌, subst, append-nil, arith}
 use Rattle.std.proofs.lemmas.List.{take-append-drop}
-use Rattle.std.specs.List.{last_or, AllByRecursion as All}
+use Rattle.std.specs.List.{last_or, AllByRecursion}
 use Rattle.std.specs.Ordering.{is_le, is_eq}
 use Rattle.store.specs.Meaning.{Meaning}
 use Rattle.keys.specs.Orders.{Orderly}
@@ -52,7 +52,7 @@ module _ {K : Type 0} {order : K → K → Ordering} (o : Orderly order) where
       later e None h = h ∙ sym (ap (λ r. cond (is_eq r) (Some p.handle) None) e)
       later e (Some q) h = h
 
-      none : order p.key k ≡ Equal → All (λ (q : Pair K). is_le (order q.key k) ≡ false) ps
+      none : order p.key k ≡ Equal → AllByRecursion (λ (q : Pair K). is_le (order q.key k) ≡ false) ps
       none e = all_map (λ (q : Pair K). order p.key q.key ≡ Less) (λ (q : Pair K). is_le (order q.key k) ≡ false) ps (λ q z. ap is_le (o.flips k q.key (ap (λ x. order x q.key) (sym (o.apart p.key k e)) ∙ z))) a.0
 
       go : (r : Ordering) → order p.key k ≡ r → find order k ps ≡ handle_at order k (floor order k ps) →
@@ -66,7 +66,7 @@ module _ {K : Type 0} (κ : Kind K) where
   pub leaf_pairs : (ω : ℕ → ℕ → ℕ) (b : ℕ) → pairs_in κ ω 0 b ≡ node κ ω 0 b
   leaf_pairs ω b = flat_leaf K (node κ ω 0 b)
 
-  all_under : (P : K → Type 0) (ω : ℕ → ℕ → ℕ) (es : List Entry) → All (λ (p : Pair K). P p.key) (map (item κ ω 0) es) → All P (keys_in κ.unpacked es)
+  all_under : (P : K → Type 0) (ω : ℕ → ℕ → ℕ) (es : List Entry) → AllByRecursion (λ (p : Pair K). P p.key) (map (item κ ω 0) es) → AllByRecursion P (keys_in κ.unpacked es)
   all_under P ω [] a = tt
   all_under P ω (e ∷ es) a = (a.0, all_under P ω es a.1)
 
@@ -78,16 +78,16 @@ module _ {K : Type 0} (κ : Kind K) where
   pub leaf_ascends : (m : Meaning) (b : ℕ) → Sits κ index_unit m 0 b → Ascending κ.order (keys_in κ.unpacked (entries κ.form (m.words b)))
   leaf_ascends m b s = keys_up m.words (entries κ.form (m.words b)) (subst (Sorted κ.order) (leaf_pairs m.words b) s.ascending)
 
-  first_pass : (ω : ℕ → ℕ → ℕ) (k : K) (es : List Entry) (r : ℕ) → All (λ x. κ.order x k ≡ Greater → ⊥) (take r (keys_in κ.unpacked es)) → All (λ (p : Pair K). is_le (κ.order p.key k) ≡ true) (take r (map (item κ ω 0) es))
+  first_pass : (ω : ℕ → ℕ → ℕ) (k : K) (es : List Entry) (r : ℕ) → AllByRecursion (λ x. κ.order x k ≡ Greater → ⊥) (take r (keys_in κ.unpacked es)) → AllByRecursion (λ (p : Pair K). is_le (κ.order p.key k) ≡ true) (take r (map (item κ ω 0) es))
   first_pass ω k es zero a = tt
   first_pass ω k [] (suc r) a = tt
   first_pass ω k (e ∷ es) (suc r) a = (not_greater _ a.0, first_pass ω k es r a.1)
 
-  others_fail : (ω : ℕ → ℕ → ℕ) (k : K) (es : List Entry) → All (λ x. κ.order x k ≡ Greater) (keys_in κ.unpacked es) → All (λ (p : Pair K). κ.order p.key k ≡ Greater) (map (item κ ω 0) es)
+  others_fail : (ω : ℕ → ℕ → ℕ) (k : K) (es : List Entry) → AllByRecursion (λ x. κ.order x k ≡ Greater) (keys_in κ.unpacked es) → AllByRecursion (λ (p : Pair K). κ.order p.key k ≡ Greater) (map (item κ ω 0) es)
   others_fail ω k [] a = tt
   others_fail ω k (e ∷ es) a = (a.0, others_fail ω k es a.1)
 
-  rest_above : (ω : ℕ → ℕ → ℕ) (k : K) (es : List Entry) (r : ℕ) → All (λ x. κ.order x k ≡ Greater) (drop r (keys_in κ.unpacked es)) → All (λ (p : Pair K). κ.order p.key k ≡ Greater) (drop r (map (item κ ω 0) es))
+  rest_above : (ω : ℕ → ℕ → ℕ) (k : K) (es : List Entry) (r : ℕ) → AllByRecursion (λ x. κ.order x k ≡ Greater) (drop r (keys_in κ.unpacked es)) → AllByRecursion (λ (p : Pair K). κ.order p.key k ≡ Greater) (drop r (map (item κ ω 0) es))
   rest_above ω k es zero a = others_fail ω k es a
   rest_above ω k [] (suc r) a = tt
   rest_above ω k (e ∷ es) (suc r) a = rest_above ω k es r a
@@ -95,8 +95,8 @@ module _ {K : Type 0} (κ : Kind K) where
   -- r pairs of a leaf have keys at most k, and they are the first
   pub record Parted (m : Meaning) (b : ℕ) (k : K) (r : ℕ) : Type 0 where
     pub within : r ≤ m.words b 1
-    pub low : All (λ (p : Pair K). is_le (κ.order p.key k) ≡ true) (take r (node κ m.words 0 b))
-    pub high : All (λ (p : Pair K). κ.order p.key k ≡ Greater) (drop r (node κ m.words 0 b))
+    pub low : AllByRecursion (λ (p : Pair K). is_le (κ.order p.key k) ≡ true) (take r (node κ m.words 0 b))
+    pub high : AllByRecursion (λ (p : Pair K). κ.order p.key k ≡ Greater) (drop r (node κ m.words 0 b))
 
   pub parted : (m n : Meaning) (b : ℕ) (k : K) (r : ℕ) → Sits κ index_unit m 0 b → Found κ.form κ.order κ.unpacked b k m r n → Parted m b k r
   parted m n b k r s f =
@@ -108,7 +108,7 @@ module _ {K : Type 0} (κ : Kind K) where
         high = rest_above m.words k es r sp.rest;
       }
 
-  all_fail : (k : K) (ps : List (Pair K)) → All (λ p. κ.order p.key k ≡ Greater) ps → All (λ p. is_le (κ.order p.key k) ≡ false) ps
+  all_fail : (k : K) (ps : List (Pair K)) → AllByRecursion (λ p. κ.order p.key k ≡ Greater) ps → AllByRecursion (λ p. is_le (κ.order p.key k) ≡ false) ps
   all_fail k [] a = tt
   all_fail k (p ∷ ps) a = (ap is_le a.0, all_fail k ps a.1)
 

@@ -4,7 +4,7 @@ use Rattle.std.proofs.lemmas.List.{get_or-map, get_or-take, get_or-drop, length-
 use Rattle.std.proofs.ByRecursion.{All-get_or}
 use Rattle.std.proofs.lemmas.Bool.{le-leb, cond-true}
 use Rattle.std.specs.Ordering.{is_le}
-use Rattle.std.specs.List.{AllByRecursion as All}
+use Rattle.std.specs.List.{AllByRecursion}
 use Rattle.store.specs.Meaning.{Meaning, limit}
 use Rattle.keys.specs.Orders.{Orderly}
 use Rattle.nodes.specs.Places.{Form, block_number}
@@ -53,7 +53,7 @@ pub record Routed {K : Type 0} (order : K → K → Ordering) (unit : ℕ → �
 
 module _ {K : Type 0} {order : K → K → Ordering} (o : Orderly order) (unit : ℕ → ℕ) (units : Units unit) where
   -- by the number of the last child that starts at k or below
-  pub routed_last : (l : ℕ) (k : K) (c : Item K (suc l)) (cs : List (Item K (suc l))) (i : ℕ) → All (Fit K unit (suc l)) (c ∷ cs) → Sorted order (pairs K (suc (suc l)) (c ∷ cs)) → LastChild order (suc l) k c cs i → Routed order unit l k (c ∷ cs) i
+  pub routed_last : (l : ℕ) (k : K) (c : Item K (suc l)) (cs : List (Item K (suc l))) (i : ℕ) → AllByRecursion (Fit K unit (suc l)) (c ∷ cs) → Sorted order (pairs K (suc (suc l)) (c ∷ cs)) → LastChild order (suc l) k c cs i → Routed order unit l k (c ∷ cs) i
   routed_last l k c cs i f a last =
       let x : Item K (suc (suc l)) = c ∷ cs in
       let z = route order (suc l) k c cs in
@@ -83,7 +83,7 @@ module _ {K : Type 0} {order : K → K → Ordering} (o : Orderly order) (unit :
       }
 
   -- by how many children start at k or below, where those are the first
-  pub routed_count : (l : ℕ) (k : K) (x : Item K (suc (suc l))) (r : ℕ) → All (Fit K unit (suc l)) x → Sorted order (pairs K (suc (suc l)) x) → 1 ≤ length x → r ≤ length x →
+  pub routed_count : (l : ℕ) (k : K) (x : Item K (suc (suc l))) (r : ℕ) → AllByRecursion (Fit K unit (suc l)) x → Sorted order (pairs K (suc (suc l)) x) → 1 ≤ length x → r ≤ length x →
       ((j : ℕ) (d : Item K (suc l)) → j < r → starts order (suc l) k (get_or x j d) ≡ true) → ((j : ℕ) (d : Item K (suc l)) → r ≤ j → j < length x → starts order (suc l) k (get_or x j d) ≡ false) → Routed order unit l k x (r - 1)
   routed_count l k [] r f a some h low high = absurd (omega arith)
   routed_count l k (c ∷ cs) r f a some h low high = routed_last l k c cs (r - 1) f a (last_by_count order (suc l) k c cs r h (λ j. low j c) (λ j. high j c))
@@ -109,7 +109,7 @@ not_greater Equal h = refl
 not_greater Greater h = absurd (h refl)
 
 -- what holds of all entries holds of the one at a place
-pub all_at : (P : Entry → Type 0) (φ : Form) (β : ℕ → ℕ) (i : ℕ) → i < β 1 → All P (entries φ β) → P (entry_at φ β i)
+pub all_at : (P : Entry → Type 0) (φ : Form) (β : ℕ → ℕ) (i : ℕ) → i < β 1 → AllByRecursion P (entries φ β) → P (entry_at φ β i)
 all_at P φ β i h a = subst P (entries_at φ β i (entry_at φ β i) h) (All-get_or P (entries φ β) i (entry_at φ β i) (omega (arith, entries_length φ β)) a)
 
 module _ {K : Type 0} (κ : Kind K) where
@@ -124,7 +124,7 @@ module _ {K : Type 0} (κ : Kind K) where
       get_or-map (item κ ω l) (entries κ.form (ω b)) i e d (omega (arith, entries_length κ.form (ω b))) ∙ ap (item κ ω l) (entries_at κ.form (ω b) i e h)
 
   -- what holds of all items holds of the one of an entry
-  pub all_items_at : (P : (l : ℕ) → Item K l → Type 0) (ω : ℕ → ℕ → ℕ) (l b i : ℕ) → i < ω b 1 → All (P l) (node κ ω l b) → P l (item κ ω l (entry_at κ.form (ω b) i))
+  pub all_items_at : (P : (l : ℕ) → Item K l → Type 0) (ω : ℕ → ℕ → ℕ) (l b i : ℕ) → i < ω b 1 → AllByRecursion (P l) (node κ ω l b) → P l (item κ ω l (entry_at κ.form (ω b) i))
   all_items_at P ω l b i h a =
       let y = item κ ω l (entry_at κ.form (ω b) i) in
       subst (P l) (item_at ω l b i y h) (All-get_or (P l) (node κ ω l b) i y (omega (arith, node_length ω l b)) a)

@@ -1,7 +1,7 @@
 -- A tree is known by the words of its own blocks.
 use Rattle.std.proofs.Common.{◌≡◌, ℕ, zero, suc, ◌+◌, ◌≤◌, cond, eqb, List, [], ◌∷◌, ◌++◌, map, sym, refl, ap, ◌∙◌, subst, ap₂, arith}
 use Rattle.std.proofs.lemmas.List.{map-append}
-use Rattle.std.specs.List.{AllByRecursion as All}
+use Rattle.std.specs.List.{AllByRecursion}
 use Rattle.store.specs.Meaning.{Meaning}
 use Rattle.nodes.specs.Nodes.{Entry, entries}
 use Rattle.plain.proofs.Alls.{all_append, all_front, all_back}
@@ -24,7 +24,7 @@ module _ {K : Type 0} (κ : Kind K) (ω υ : ℕ → ℕ → ℕ) where
   pub record Sames (l : ℕ) (es : List Entry) : Type 0 where
     pub items : map (item κ υ l) es ≡ map (item κ ω l) es
     pub feet_are : joined (foot κ υ l) es ≡ joined (foot κ ω l) es
-    pub right : All (Right κ ω l) es → All (Right κ υ l) es
+    pub right : AllByRecursion (Right κ ω l) es → AllByRecursion (Right κ υ l) es
 
   each : (l : ℕ) → ((e : Entry) → Agree (foot κ ω l e) → Same l e) → (es : List Entry) → Agree (joined (foot κ ω l) es) → Sames l es
   each l f [] h = record { items = refl; feet_are = refl; right = λ r. r }
@@ -60,7 +60,7 @@ module _ {K : Type 0} (κ : Kind K) (ω υ : ℕ → ℕ → ℕ) where
           r.2,
           ap (λ β. β 0) at ∙ r.3,
           subst (λ (β : ℕ → ℕ). β 1 ≤ κ.form.places) (sym at) r.4,
-          subst (λ (β : ℕ → ℕ). All (Right κ υ l) (entries κ.form β)) (sym at) (s.right r.5),
+          subst (λ (β : ℕ → ℕ). AllByRecursion (Right κ υ l) (entries κ.form β)) (sym at) (s.right r.5),
         );
       }
 
@@ -73,7 +73,7 @@ module _ {K : Type 0} (κ : Kind K) (ω υ : ℕ → ℕ → ℕ) where
       let at : υ b ≡ ω b = h b (times_head b (joined (foot κ ω l) (entries κ.form (ω b)))) in
       let s = each l (frame l) (entries κ.form (ω b)) (λ c m. h c (omega arith)) in
       let n = within l b at s in
-      (n.0, n.1, λ w. (ap (λ β. β 0) at ∙ w.0, subst (λ (β : ℕ → ℕ). β 1 ≤ κ.form.places) (sym at) w.1, subst (λ (β : ℕ → ℕ). All (Right κ υ l) (entries κ.form β)) (sym at) (s.right w.2)))
+      (n.0, n.1, λ w. (ap (λ β. β 0) at ∙ w.0, subst (λ (β : ℕ → ℕ). β 1 ≤ κ.form.places) (sym at) w.1, subst (λ (β : ℕ → ℕ). AllByRecursion (Right κ υ l) (entries κ.form β)) (sym at) (s.right w.2)))
 
 -- some entries of a node gave way to others
 module _ {K : Type 0} (κ : Kind K) (m n : Meaning) (l b : ℕ) (A old new C : List Entry) (owned : Owned m (feet κ m.words l b))
@@ -97,13 +97,13 @@ module _ {K : Type 0} (κ : Kind K) (m n : Meaning) (l b : ℕ) (A old new C : L
       let f = item κ n.words l in
       ap (map f) is ∙ map-append f A (new ++ C) ∙ ap₂ ◌++◌ front.items (map-append f new C ∙ ap (λ z. map f new ++ z) back.items)
 
-  pub whole_is : n.words b 0 ≡ m.words b 0 → n.words b 1 ≤ κ.form.places → All (Right κ n.words l) new → Whole κ m.words l b → Whole κ n.words l b
+  pub whole_is : n.words b 0 ≡ m.words b 0 → n.words b 1 ≤ κ.form.places → AllByRecursion (Right κ n.words l) new → Whole κ m.words l b → Whole κ n.words l b
   whole_is e k r w =
       let R = Right κ m.words l in
-      let all : All R (A ++ (old ++ C)) = subst (All R) was w.2 in (
+      let all : AllByRecursion R (A ++ (old ++ C)) = subst (AllByRecursion R) was w.2 in (
         e ∙ w.0,
         k,
-        subst (All (Right κ n.words l)) (sym is)
+        subst (AllByRecursion (Right κ n.words l)) (sym is)
             (all_append (Right κ n.words l) A (new ++ C) (front.right (all_front R A (old ++ C) all))
             (all_append (Right κ n.words l) new C r (back.right (all_back R old C (all_back R A (old ++ C) all))))),
       )

@@ -1,7 +1,7 @@
 -- When the words of a store's blocks hold a tree.
 use Rattle.std.specs.Prelude.{◌≡◌, ℕ, zero, suc, ◌+◌, ◌*◌, ◌<◌, ◌≤◌, Bool, cond, List, [], ◌∷◌, map, Some, None, Option, ◌==◌}
 use Rattle.std.specs.declared.cmp.Ordering.{Ordering}
-use Rattle.std.specs.List.{AllByRecursion as All}
+use Rattle.std.specs.List.{AllByRecursion}
 use Rattle.store.specs.Meaning.{Meaning, limit}
 use Rattle.keys.specs.Orders.{Orderly, Packing}
 use Rattle.nodes.specs.Places.{Form, form, breadth}
@@ -59,11 +59,11 @@ module _ {K : Type 0} (κ : Kind K) where
   Right ω zero e = Unit {0}
   Right ω (suc l) e =
       (e.weight ≡ weight K (suc l) (item ω (suc l) e)) × (e.key ≡ smallest_words (suc l) (item ω (suc l) e)) × (e.child ≤ limit)
-      × (ω e.child 0 ≡ l) × (ω e.child 1 ≤ κ.form.places) × All (Right ω l) (entries κ.form (ω e.child))
+      × (ω e.child 0 ≡ l) × (ω e.child 1 ≤ κ.form.places) × AllByRecursion (Right ω l) (entries κ.form (ω e.child))
 
   -- block b holds a node of level l
   abbrev pub Whole : (ℕ → ℕ → ℕ) → ℕ → ℕ → Type 0
-  Whole ω l b = (ω b 0 ≡ l) × (ω b 1 ≤ κ.form.places) × All (Right ω l) (entries κ.form (ω b))
+  Whole ω l b = (ω b 0 ≡ l) × (ω b 1 ≤ κ.form.places) × AllByRecursion (Right ω l) (entries κ.form (ω b))
 
 -- how often a number occurs
 abbrev pub times : ℕ → List ℕ → ℕ
@@ -93,6 +93,6 @@ pub record Sits {K : Type 0} (κ : Kind K) (unit : ℕ → ℕ) (m : Meaning) (l
   pub whole : Whole κ m.words l b
   pub owned : Owned m (feet κ m.words l b)
   pub kids : Kids K unit l (node κ m.words l b)
-  pub fits : All (Fit K unit l) (node κ m.words l b)
+  pub fits : AllByRecursion (Fit K unit l) (node κ m.words l b)
   pub light : weight K (suc l) (node κ m.words l b) ≤ 8 * unit l
   pub ascending : Sorted κ.order (pairs K (suc l) (node κ m.words l b))

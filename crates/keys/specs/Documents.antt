@@ -2,7 +2,7 @@
 use Rattle.std.specs.Prelude.{ℕ, zero, suc, ◌+◌, ◌*◌, ◌/◌, ◌%◌, ◌^◌, ◌<◌, List, [], ◌∷◌, ◌++◌, slice_index, refl}
 use Rattle.std.specs.declared.cmp.Ordering.{Ordering}
 use Rattle.std.proofs.Common.{mod-lt, arith, lit<}
-use Rattle.std.specs.List.{AllByRecursion as All}
+use Rattle.std.specs.List.{AllByRecursion}
 use Rattle.keys.specs.declared.document.DocumentName.{DocumentName}
 use Rattle.std.specs.Ordering.{nat_cmp}
 use Rattle.std.specs.Cmp.Lexicographic.{slice_cmp}
@@ -30,10 +30,10 @@ bytes_of_all ws = bytes_of (slice_index ws 0) ++ (bytes_of (slice_index ws 1) ++
 byte : (n : ℕ) → n % 256 < 256
 byte n = mod-lt n (lit< tt)
 
-bytes_fit : (w : ℕ) (xs : List ℕ) → All (λ b. b < 256) xs → All (λ b. b < 256) (bytes_of w ++ xs)
+bytes_fit : (w : ℕ) (xs : List ℕ) → AllByRecursion (λ b. b < 256) xs → AllByRecursion (λ b. b < 256) (bytes_of w ++ xs)
 bytes_fit w xs a = (byte _, (byte _, (byte _, (byte _, (byte _, (byte _, (byte _, (byte _, a))))))))
 
-pub all_at : (xs : List ℕ) → All (λ b. b < 256) xs → (k : ℕ) → slice_index xs k < 256
+pub all_at : (xs : List ℕ) → AllByRecursion (λ b. b < 256) xs → (k : ℕ) → slice_index xs k < 256
 all_at [] a k = omega arith
 all_at (x ∷ xs) a zero = a.0
 all_at (x ∷ xs) a (suc k) = all_at xs a.1 k

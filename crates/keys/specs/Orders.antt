@@ -2,7 +2,7 @@
 use Rattle.std.specs.Prelude.{◌≡◌, ℕ, ◌^◌, ◌<◌, ◌≤◌, List, length}
 use Rattle.std.specs.declared.cmp.Ordering.TheVariants.{Less, Equal, Greater}
 use Rattle.std.specs.declared.cmp.Ordering.{Ordering}
-use Rattle.std.specs.List.{AllByRecursion as All}
+use Rattle.std.specs.List.{AllByRecursion}
 use Rattle.std.specs.Ordering.{nat_cmp}
 use Rattle.std.specs.Cmp.Lexicographic.{slice_cmp}
 
@@ -20,7 +20,7 @@ pub record Orderly {K : Type 0} (order : K → K → Ordering) : Type 0 where
 
 -- a word has 64 bits
 abbrev pub Words : List ℕ → Type 0
-Words ws = All (λ w. w < 2 ^ 64) ws
+Words ws = AllByRecursion (λ w. w < 2 ^ 64) ws
 
 -- a packing into `width` words, and back
 pub record Packing {K : Type 0} (width : ℕ) (packed : K → List ℕ) (unpacked : List ℕ → K) : Type 0 where

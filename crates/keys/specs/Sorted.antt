@@ -3,12 +3,12 @@ use Rattle.std.specs.Prelude.{◌≡◌, ℕ, ◌+◌, Bool, true, false, cond, 
 use Rattle.std.specs.declared.cmp.Ordering.TheVariants.{Less}
 use Rattle.std.specs.declared.cmp.Ordering.{Ordering}
 use Rattle.std.specs.Ordering.{is_lt, is_le}
-use Rattle.std.specs.List.{AllByRecursion as All}
+use Rattle.std.specs.List.{AllByRecursion}
 
 -- each element is less than all that follow it
 abbrev pub Ascending : {X : Type 0} → (X → X → Ordering) → List X → Type 0
 Ascending order [] = Unit {0}
-Ascending order (x ∷ xs) = All (λ y. order x y ≡ Less) xs × Ascending order xs
+Ascending order (x ∷ xs) = AllByRecursion (λ y. order x y ≡ Less) xs × Ascending order xs
 
 -- how many elements pass a test
 abbrev pub how_many : {X : Type 0} → (X → Bool) → List X → ℕ

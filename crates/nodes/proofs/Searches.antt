@@ -1,6 +1,6 @@
 -- The halving search, and what it finds where the keys ascend.
 use Rattle.std.proofs.Common.{◌≡◌, ℕ, zero, suc, ◌+◌, ◌-◌, ◌<◌, ◌≤◌, List, [], ◌∷◌, map, length, get_or, Ordering, Less, Greater, sym, refl, ap, ◌∙◌, subst, ⊎_elim, arith}
-use Rattle.std.specs.List.{AllByRecursion as All}
+use Rattle.std.specs.List.{AllByRecursion}
 use Rattle.std.proofs.ByRecursion.{All-get_or, All-from_get_or}
 use Rattle.std.proofs.lemmas.Bool.{cases_order}
 use Rattle.keys.specs.Orders.{Orderly}
@@ -49,8 +49,8 @@ module _ {K : Type 0} (order : K → K → Ordering) (law : Orderly order) (key 
   split_upto : SplitAt order (upto n key) q r
   split_upto = record {
     within = omega (arith, length_upto n key, h.within);
-    first = subst (All (λ x. order x q ≡ Greater → ⊥)) (sym (take_upto r n key h.within)) (All-from_get_or (λ x. order x q ≡ Greater → ⊥) (upto r key) q (λ i l e. let lt : i < r = omega (arith, length_upto r key) in low i lt (ap (λ z. order z q) (sym (get_or_upto r key i q lt)) ∙ e)));
-    rest = subst (All (λ x. order x q ≡ Greater)) (sym (drop_upto r n key h.within)) (All-from_get_or (λ x. order x q ≡ Greater) (upto (n - r) (λ j. key (r + j))) q (λ i l. let lt : i < n - r = omega (arith, length_upto (n - r) (λ j. key (r + j))) in ap (λ z. order z q) (get_or_upto (n - r) (λ j. key (r + j)) i q lt) ∙ high (r + i) (omega arith) (omega arith)));
+    first = subst (AllByRecursion (λ x. order x q ≡ Greater → ⊥)) (sym (take_upto r n key h.within)) (All-from_get_or (λ x. order x q ≡ Greater → ⊥) (upto r key) q (λ i l e. let lt : i < r = omega (arith, length_upto r key) in low i lt (ap (λ z. order z q) (sym (get_or_upto r key i q lt)) ∙ e)));
+    rest = subst (AllByRecursion (λ x. order x q ≡ Greater)) (sym (drop_upto r n key h.within)) (All-from_get_or (λ x. order x q ≡ Greater) (upto (n - r) (λ j. key (r + j))) q (λ i l. let lt : i < n - r = omega (arith, length_upto (n - r) (λ j. key (r + j))) in ap (λ z. order z q) (get_or_upto (n - r) (λ j. key (r + j)) i q lt) ∙ high (r + i) (omega arith) (omega arith)));
   }
 
 -- the same of the keys of a node's entries

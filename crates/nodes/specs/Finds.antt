@@ -2,7 +2,7 @@
 use Rattle.std.specs.Prelude.{◌≡◌, ℕ, ◌-◌, ◌<◌, ◌≤◌, List, map, length, take, drop, ◌≢◌}
 use Rattle.std.specs.declared.cmp.Ordering.TheVariants.{Greater}
 use Rattle.std.specs.declared.cmp.Ordering.{Ordering}
-use Rattle.std.specs.List.{AllByRecursion as All}
+use Rattle.std.specs.List.{AllByRecursion}
 use Rattle.store.specs.Meaning.{Meaning}
 use Rattle.keys.specs.Sorted.{Ascending}
 use Rattle.nodes.specs.Places.{Form}
@@ -25,8 +25,8 @@ pub record Sought {K : Type 0} (order : K → K → Ordering) (key : ℕ → K) 
 -- r keys are at most q, and they are the first; all others are above q
 pub record SplitAt {K : Type 0} (order : K → K → Ordering) (keys : List K) (q : K) (r : ℕ) : Type 0 where
   pub within : r ≤ length keys
-  pub first : All (λ x. order x q ≢ Greater) (take r keys)
-  pub rest : All (λ x. order x q ≡ Greater) (drop r keys)
+  pub first : AllByRecursion (λ x. order x q ≢ Greater) (take r keys)
+  pub rest : AllByRecursion (λ x. order x q ≡ Greater) (drop r keys)
 
 -- r is the place of q among the keys of block b, and nothing changed
 pub record Found {K : Type 0} (φ : Form) (order : K → K → Ordering) (unpacked : List ℕ → K) (b : ℕ) (q : K) (m : Meaning) (r : ℕ) (n : Meaning) : Type 0 where

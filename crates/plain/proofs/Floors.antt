@@ -1,7 +1,7 @@
 -- Finding, floor and intervals in an ascending list.
 use Rattle.std.proofs.Common.{◌≡◌, ℕ, ◌+◌, ◌-◌, Bool, true, false, cond, ◌&&◌, List, [], ◌∷◌, ◌++◌, length, Some, None, filter, Option, Ordering, Less, Equal, Greater, unwrap_or, sym, refl, ap, ◌∙◌, subst, arith}
 use Rattle.std.proofs.lemmas.Bool.{both_ways}
-use Rattle.std.specs.List.{last_or, AllByRecursion as All}
+use Rattle.std.specs.List.{last_or, AllByRecursion}
 use Rattle.std.specs.Ordering.{is_lt, is_le, is_eq, is_ge}
 use Rattle.keys.specs.Orders.{Orderly}
 use Rattle.keys.specs.Totals.{greater_above}
@@ -13,7 +13,7 @@ use Rattle.plain.proofs.Pairs.{High}
 
 module _ {K : Type 0} {order : K → K → Ordering} (o : Orderly order) where
   -- a list that goes on above one above k is all above k
-  pub highs : (k : K) (x : Pair K) (xs : List (Pair K)) → order x.key k ≡ Greater → All (λ p. order x.key p.key ≡ Less) xs → High order k xs
+  pub highs : (k : K) (x : Pair K) (xs : List (Pair K)) → order x.key k ≡ Greater → AllByRecursion (λ p. order x.key p.key ≡ Less) xs → High order k xs
   highs k x xs g a = all_map (λ p. order x.key p.key ≡ Less) (λ p. order p.key k ≡ Greater) xs (λ p q. greater_above o x.key p.key k q g) a
 
   pub finds : (k : K) (ps : List (Pair K)) → HandleOf order k ps (find order k ps)
@@ -46,11 +46,11 @@ module _ {K : Type 0} {order : K → K → Ordering} (o : Orderly order) where
         after = h.after;
         is = ap (λ l. p ∷ l) h.is;
         at_most = h.at_most;
-        smaller = (first h.before h.after (subst (λ l. All (λ q. order p.key q.key ≡ Less) l) h.is a.0), h.smaller);
+        smaller = (first h.before h.after (subst (λ l. AllByRecursion (λ q. order p.key q.key ≡ Less) l) h.is a.0), h.smaller);
         above = h.above;
       }
         where
-          first : (b c : List (Pair K)) → All (λ q. order p.key q.key ≡ Less) (b ++ (r ∷ c)) → order p.key r.key ≡ Less
+          first : (b c : List (Pair K)) → AllByRecursion (λ q. order p.key q.key ≡ Less) (b ++ (r ∷ c)) → order p.key r.key ≡ Less
           first [] c s = s.0
           first (x ∷ b) c s = first b c s.1
 
@@ -93,7 +93,7 @@ module _ {K : Type 0} {order : K → K → Ordering} (o : Orderly order) where
   within_none low high ps g = kept_none (λ p. is_ge (order p.key low) && is_le (order p.key high)) ps (all_any (λ p. (is_ge (order p.key low) && is_le (order p.key high)) ≡ false) ps (λ p. between_none low high p.key g))
 
   -- from low on, nothing is below it
-  rank_none : (low : K) (x : Pair K) (xs : List (Pair K)) → is_ge (order x.key low) ≡ true → All (λ p. order x.key p.key ≡ Less) xs → rank order low xs ≡ 0
+  rank_none : (low : K) (x : Pair K) (xs : List (Pair K)) → is_ge (order x.key low) ≡ true → AllByRecursion (λ p. order x.key p.key ≡ Less) xs → rank order low xs ≡ 0
   rank_none low x xs g a = how_many_none (λ p. is_lt (order p.key low)) xs (all_map (λ p. order x.key p.key ≡ Less) (λ p. is_lt (order p.key low) ≡ false) xs (λ p s. later p.key s (order p.key low) refl) a)
     where
       later : (y : K) → order x.key y ≡ Less → (r : Ordering) → order y low ≡ r → is_lt r ≡ false

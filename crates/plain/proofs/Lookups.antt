@@ -2,7 +2,7 @@
 use Rattle.std.proofs.Common.{◌≡◌, ℕ, Bool, true, false, cond, List, [], ◌∷◌, is_some, Some, None, Option, Ordering, Less, Equal, Greater, sym, refl, ap, ◌∙◌}
 use Rattle.std.proofs.lemmas.Bool.{both_ways}
 use Rattle.std.specs.Ordering.{is_eq, is_le}
-use Rattle.std.specs.List.{AllByRecursion as All}
+use Rattle.std.specs.List.{AllByRecursion}
 use Rattle.keys.specs.Orders.{Orderly}
 use Rattle.plain.specs.Plain.{Sorted, find, present, put, cut}
 use Rattle.plain.specs.declared.pair.Pair.{Pair}
@@ -43,7 +43,7 @@ module _ {K : Type 0} {order : K → K → Ordering} (o : Orderly order) where
       go Greater s e ih = refl
 
   -- what stands after a key does not have it
-  none_after : (p : Pair K) (ps : List (Pair K)) → All (λ r. order p.key r.key ≡ Less) ps → find order p.key ps ≡ None
+  none_after : (p : Pair K) (ps : List (Pair K)) → AllByRecursion (λ r. order p.key r.key ≡ Less) ps → find order p.key ps ≡ None
   none_after p [] a = refl
   none_after p (r ∷ ps) a = rw (o.flips p.key r.key a.0) (none_after p ps a.1)
 

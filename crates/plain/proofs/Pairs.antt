@@ -2,7 +2,7 @@
 use Rattle.std.proofs.Common.{◌≡◌, ℕ, Bool, true, false, cond, List, [], ◌∷◌, ◌++◌, is_some, Some, Ordering, Less, Equal, Greater, refl, ap}
 use Rattle.std.proofs.lemmas.Bool.{false≢true, true≢false}
 use Rattle.std.specs.Ordering.{is_le, is_eq}
-use Rattle.std.specs.List.{AllByRecursion as All}
+use Rattle.std.specs.List.{AllByRecursion}
 use Rattle.keys.specs.Orders.{Orderly}
 use Rattle.plain.specs.Plain.{Sorted, find, present, put, cut}
 use Rattle.plain.specs.declared.pair.Pair.{Pair}
@@ -11,10 +11,10 @@ use Rattle.plain.proofs.Alls.{all_map, all_front, all_back}
 module _ {K : Type 0} (order : K → K → Ordering) where
   -- all keys of a list are below k, and all are above it
   abbrev pub Low : K → List (Pair K) → Type 0
-  Low k ps = All (λ p. order p.key k ≡ Less) ps
+  Low k ps = AllByRecursion (λ p. order p.key k ≡ Less) ps
 
   abbrev pub High : K → List (Pair K) → Type 0
-  High k ps = All (λ p. order p.key k ≡ Greater) ps
+  High k ps = AllByRecursion (λ p. order p.key k ≡ Greater) ps
 
   pub put_after : (k : K) (h : ℕ) (xs ys : List (Pair K)) → Low k xs → put order k h (xs ++ ys) ≡ xs ++ put order k h ys
   put_after k h [] ys a = refl
@@ -58,23 +58,23 @@ module _ {K : Type 0} (order : K → K → Ordering) where
   sorted_back [] ys a = a
   sorted_back (x ∷ xs) ys a = sorted_back xs ys a.1
 
-  pub sorted_across : (xs ys : List (Pair K)) → Sorted order (xs ++ ys) → All (λ p. All (λ q. order p.key q.key ≡ Less) ys) xs
+  pub sorted_across : (xs ys : List (Pair K)) → Sorted order (xs ++ ys) → AllByRecursion (λ p. AllByRecursion (λ q. order p.key q.key ≡ Less) ys) xs
   sorted_across [] ys a = tt
   sorted_across (x ∷ xs) ys a = (all_back (λ p. order x.key p.key ≡ Less) xs ys a.0, sorted_across xs ys a.1)
 
-  all_put : (P : Pair K → Type 0) (k : K) (h : ℕ) (xs : List (Pair K)) → P (record { key = k; handle = h }) → All P xs → All P (put order k h xs)
+  all_put : (P : Pair K → Type 0) (k : K) (h : ℕ) (xs : List (Pair K)) → P (record { key = k; handle = h }) → AllByRecursion P xs → AllByRecursion P (put order k h xs)
   all_put P k h [] p q = (p, tt)
   all_put P k h (x ∷ xs) p q = go (is_le (order x.key k)) (all_put P k h xs p q.1)
     where
-      go : (b : Bool) → All P (put order k h xs) → All P (cond b (x ∷ put order k h xs) (record { key = k; handle = h } ∷ x ∷ xs))
+      go : (b : Bool) → AllByRecursion P (put order k h xs) → AllByRecursion P (cond b (x ∷ put order k h xs) (record { key = k; handle = h } ∷ x ∷ xs))
       go true ih = (q.0, ih)
       go false ih = (p, q)
 
-  all_cut : (P : Pair K → Type 0) (k : K) (xs : List (Pair K)) → All P xs → All P (cut order k xs)
+  all_cut : (P : Pair K → Type 0) (k : K) (xs : List (Pair K)) → AllByRecursion P xs → AllByRecursion P (cut order k xs)
   all_cut P k [] q = tt
   all_cut P k (x ∷ xs) q = go (is_eq (order x.key k)) (all_cut P k xs q.1)
     where
-      go : (b : Bool) → All P (cut order k xs) → All P (cond b xs (x ∷ cut order k xs))
+      go : (b : Bool) → AllByRecursion P (cut order k xs) → AllByRecursion P (cond b xs (x ∷ cut order k xs))
       go true ih = q.1
       go false ih = (q.0, ih)
 

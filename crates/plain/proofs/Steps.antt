@@ -3,7 +3,7 @@ use Rattle.std.proofs.Common.{◌≡◌, ℕ, ◌^◌, ◌<◌, ◌≤◌, Bool,
 use Rattle.std.proofs.lemmas.Bool.{both_ways, eqb-true, eqb-false}
 use Rattle.std.specs.Cmp.{ranks}
 use Rattle.std.specs.Ordering.{ordering_then, MatchOrdering, is_le, nat_cmp}
-use Rattle.std.specs.List.{AllByRecursion as All}
+use Rattle.std.specs.List.{AllByRecursion}
 use Rattle.keys.specs.Checkpoints.{order}
 use Rattle.keys.specs.Orders.{Orderly}
 use Rattle.keys.specs.declared.checkpoint.Checkpoint.{Checkpoint}
@@ -66,7 +66,7 @@ module _ (o : Orderly order) (case : ℕ) (fits : case < 2 ^ 32) where
                   (λ p g. let b : order (last_of case) p.key ≡ Less = o.flops p.key (last_of case) g in o.flips r.key p.key (under r.key p.key f.at_most b))
                   f.above;
             },
-            subst (All (λ p. p.key.case ≡ case → p.key.step ≤ r.key.step)) (sym f.is) (all_append (λ p. p.key.case ≡ case → p.key.step ≤ r.key.step) f.before (r ∷ f.after)
+            subst (AllByRecursion (λ p. p.key.case ≡ case → p.key.step ≤ r.key.step)) (sym f.is) (all_append (λ p. p.key.case ≡ case → p.key.step ≤ r.key.step) f.before (r ∷ f.after)
                 (all_map (λ p. order p.key r.key ≡ Less) (λ p. p.key.case ≡ case → p.key.step ≤ r.key.step) f.before (λ p s z. omega (arith, (says p.key r.key Less s).1 (z ∙ sym c))) f.smaller)
                 (λ z. omega arith, all_map (λ p. order p.key (last_of case) ≡ Greater) (λ p. p.key.case ≡ case → p.key.step ≤ r.key.step) f.after (λ p g z. absurd (beyond p.key g z)) f.above)),
           )
@@ -80,7 +80,7 @@ module _ (o : Orderly order) (case : ℕ) (fits : case < 2 ^ 32) where
               go Greater e l = absurd (both_ways _ refl l)
       found r f false e =
           let n = eqb-false _ _ e in
-          subst (All (λ p. p.key.case ≡ case → ⊥)) (sym f.is) (all_append (λ p. p.key.case ≡ case → ⊥) f.before (r ∷ f.after)
+          subst (AllByRecursion (λ p. p.key.case ≡ case → ⊥)) (sym f.is) (all_append (λ p. p.key.case ≡ case → ⊥) f.before (r ∷ f.after)
           (all_map (λ p. order p.key r.key ≡ Less) (λ p. p.key.case ≡ case → ⊥) f.before (λ p s z. n (omega (arith, (says p.key r.key Less s).0, at_last r.key f.at_most))) f.smaller)
           (n, all_map (λ p. order p.key (last_of case) ≡ Greater) (λ p. p.key.case ≡ case → ⊥) f.after (λ p g. beyond p.key g) f.above))
 

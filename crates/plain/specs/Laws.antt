@@ -3,7 +3,7 @@ use Rattle.std.specs.Prelude.{◌≡◌, ℕ, ◌-◌, ◌^◌, ◌<◌, ◌≤�
 use Rattle.std.specs.declared.cmp.Ordering.TheVariants.{Less, Greater}
 use Rattle.std.specs.declared.cmp.Ordering.{Ordering}
 use Rattle.std.specs.Ordering.{is_le, is_eq}
-use Rattle.std.specs.List.{AllByRecursion as All}
+use Rattle.std.specs.List.{AllByRecursion}
 use Rattle.keys.specs.declared.checkpoint.Checkpoint.{Checkpoint}
 use Rattle.keys.specs.Checkpoints.{order as checkpoint_order}
 use Rattle.plain.specs.Plain.{Plain, Call, step, inserts, deletes, reports, Sorted, find, present, put, cut, floor, rank, up_to, within}
@@ -13,7 +13,7 @@ use Rattle.plain.specs.declared.pair.Pair.{Pair}
 module _ {K : Type 0} (order : K → K → Ordering) where
   -- r is the handle that k has in the list, or nothing where it has none
   abbrev pub HandleOf : K → List (Pair K) → Option ℕ → Type 0
-  HandleOf k ps None = All (λ p. p.key ≢ k) ps
+  HandleOf k ps None = AllByRecursion (λ p. p.key ≢ k) ps
   HandleOf k ps (Some h) = (before : List (Pair K)) × (after : List (Pair K)) × (ps ≡ before ++ (record { key = k; handle = h } ∷ after))
 
   -- r is the largest pair with a key at most k: all before it are below it, all after it are above k
@@ -22,12 +22,12 @@ module _ {K : Type 0} (order : K → K → Ordering) where
     pub after : List (Pair K)
     pub is : ps ≡ before ++ (r ∷ after)
     pub at_most : is_le (order r.key k) ≡ true
-    pub smaller : All (λ p. order p.key r.key ≡ Less) before
-    pub above : All (λ p. order p.key k ≡ Greater) after
+    pub smaller : AllByRecursion (λ p. order p.key r.key ≡ Less) before
+    pub above : AllByRecursion (λ p. order p.key k ≡ Greater) after
 
   -- r is that pair, or nothing where every key is above k
   abbrev pub Floor : K → List (Pair K) → Option (Pair K) → Type 0
-  Floor k ps None = All (λ p. order p.key k ≡ Greater) ps
+  Floor k ps None = AllByRecursion (λ p. order p.key k ≡ Greater) ps
   Floor k ps (Some r) = LargestAt k ps r
 
   -- the keys that stand from low to high are counted by two ranks, and there are none where low exceeds high
@@ -58,8 +58,8 @@ module _ {K : Type 0} (order : K → K → Ordering) where
 
 -- r is the last step of the case, or nothing where the case has none
 abbrev pub LastStep : ℕ → List (Pair Checkpoint) → Option (Pair Checkpoint) → Type 0
-LastStep case ps None = All (λ p. p.key.case ≢ case) ps
-LastStep case ps (Some r) = (r.key.case ≡ case) × LargestAt checkpoint_order r.key ps r × All (λ p. p.key.case ≡ case → p.key.step ≤ r.key.step) ps
+LastStep case ps None = AllByRecursion (λ p. p.key.case ≢ case) ps
+LastStep case ps (Some r) = (r.key.case ≡ case) × LargestAt checkpoint_order r.key ps r × AllByRecursion (λ p. p.key.case ≡ case → p.key.step ≤ r.key.step) ps
 
 -- resume finds it
 abbrev pub Resumes : Type 0

@@ -1,7 +1,7 @@
 -- Nodes, taken and in all; places in a block.
 use Rattle.std.proofs.Common.{◌≡◌, ℕ, zero, suc, ◌+◌, ◌*◌, ◌<◌, ◌≤◌, Bool, true, false, cond, eqb, ltb, List, [], ◌∷◌, ◌++◌, length, Ordering, refl, ap, le_of_mul-le-mul_right, arith}
 use Rattle.std.proofs.lemmas.Bool.{eq-eqb, ne_eqb}
-use Rattle.std.specs.List.{AllByRecursion as All}
+use Rattle.std.specs.List.{AllByRecursion}
 use Rattle.tree.specs.Lists.{total, onto}
 use Rattle.tree.specs.Tree.{Item, Tree, Weighed, Update, adds, drops, Kids, Fit, weight, left, right, over, grown, split_above, starts, route, ins, del, ins_mark, del_mark, under, merged, merged_mark, fused, fused_mark, mended, lowered, updated, mark}
 use Rattle.tree.specs.Counts.{nodes, blocks, full, full_below, taken, gives, levels, lone, given_back}
@@ -24,7 +24,7 @@ split_nodes K unit l m x = go (ltb m (weight K (suc l) x))
     go false = omega arith
 
 module _ {K : Type 0} (order : K → K → Ordering) (unit : ℕ → ℕ) (units : Units unit) where
-  ins_nodes : (l : ℕ) (k : K) (h : ℕ) (x : Item K (suc l)) → Kids K unit l x → All (Fit K unit l) x → total (nodes K l) (ins order unit l k h x) ≡ total (nodes K l) x + full_below order unit l k x
+  ins_nodes : (l : ℕ) (k : K) (h : ℕ) (x : Item K (suc l)) → Kids K unit l x → AllByRecursion (Fit K unit l) x → total (nodes K l) (ins order unit l k h x) ≡ total (nodes K l) x + full_below order unit l k x
   ins_nodes zero k h x s f = omega (arith, total_none x, total_none (ins order unit zero k h x))
   ins_nodes (suc l) k h [] s f = absurd (omega arith)
   ins_nodes (suc l) k h (c ∷ cs) s f =
@@ -64,11 +64,11 @@ module _ {K : Type 0} (order : K → K → Ordering) (unit : ℕ → ℕ) (units
       go false c e p q = rw (← e) (omega arith)
 
 module _ (K : Type 0) (unit : ℕ → ℕ) (units : Units unit) where
-  heavy : (l : ℕ) (xs : List (Item K (suc l))) → All (Fit K unit (suc l)) xs → length xs * unit l + length xs * unit l ≤ total (weight K (suc l)) xs
+  heavy : (l : ℕ) (xs : List (Item K (suc l))) → AllByRecursion (Fit K unit (suc l)) xs → length xs * unit l + length xs * unit l ≤ total (weight K (suc l)) xs
   heavy l [] f = omega arith
   heavy l (x ∷ xs) f = omega (arith, heavy l xs f.1, f.0.0)
 
-  pub places_suffice : (p l : ℕ) (x : Item K (suc (suc l))) → unit (suc l) ≡ unit l * p → All (Fit K unit (suc l)) x → weight K (suc (suc l)) x ≤ 10 * unit (suc l) → length x ≤ 5 * p
+  pub places_suffice : (p l : ℕ) (x : Item K (suc (suc l))) → unit (suc l) ≡ unit l * p → AllByRecursion (Fit K unit (suc l)) x → weight K (suc (suc l)) x ≤ 10 * unit (suc l) → length x ≤ 5 * p
   places_suffice p l x e f w =
       let n = length x in
       let some = unit_some unit units l in

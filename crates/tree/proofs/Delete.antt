@@ -2,7 +2,7 @@
 use Rattle.std.proofs.Common.{◌≡◌, ℕ, zero, suc, ◌+◌, ◌*◌, ◌≤◌, Bool, true, false, cond, eqb, ltb, List, [], ◌∷◌, ◌++◌, length, is_some, Some, Ordering, sym, refl, ap, arith}
 use Rattle.std.proofs.lemmas.Bool.{leb-true, leb-false, eqb-true, false≢true}
 use Rattle.std.specs.Ordering.{is_eq}
-use Rattle.std.specs.List.{AllByRecursion as All}
+use Rattle.std.specs.List.{AllByRecursion}
 use Rattle.plain.specs.Plain.{find, present, cut}
 use Rattle.plain.specs.declared.pair.Pair.{Pair}
 use Rattle.plain.proofs.Alls.{all_append}
@@ -28,10 +28,10 @@ module _ (K : Type 0) (unit : ℕ → ℕ) (units : Units unit) where
   -- two nodes merged, of which one was too light
   pub record Merged (l : ℕ) (x : Item K (suc l)) : Type 0 where
     pub sum : total (weight K (suc l)) (merged K unit l x) ≡ weight K (suc l) x
-    pub fits : All (Fit K unit (suc l)) (merged K unit l x)
+    pub fits : AllByRecursion (Fit K unit (suc l)) (merged K unit l x)
     pub strained : (j : ℕ) → total (strains K unit j (suc l)) (merged K unit l x) ≤ total (strains K unit j l) x
 
-  merges : (l : ℕ) (x : Item K (suc l)) → All (Fit K unit l) x → 4 * unit l ≤ suc (weight K (suc l) x) → weight K (suc l) x ≤ 10 * unit l → Merged l x
+  merges : (l : ℕ) (x : Item K (suc l)) → AllByRecursion (Fit K unit l) x → 4 * unit l ≤ suc (weight K (suc l) x) → weight K (suc l) x ≤ 10 * unit l → Merged l x
   merges l x f low high = go (ltb (7 * unit l) (weight K (suc l) x)) refl
     where
       go : (b : Bool) → ltb (7 * unit l) (weight K (suc l) x) ≡ b → Merged l x
@@ -51,11 +51,11 @@ module _ (K : Type 0) (unit : ℕ → ℕ) (units : Units unit) where
   -- a node x that is too light, between its siblings
   pub record Fused (l : ℕ) (b : List (Item K (suc l))) (x : Item K (suc l)) (a : List (Item K (suc l))) : Type 0 where
     pub sum : total (weight K (suc l)) (fused K unit l b x a) ≡ total (weight K (suc l)) (onto b (x ∷ a))
-    pub fits : All (Fit K unit (suc l)) (fused K unit l b x a)
+    pub fits : AllByRecursion (Fit K unit (suc l)) (fused K unit l b x a)
     pub relieved : (j : ℕ) → total (strains K unit j (suc l)) (fused K unit l b x a) + relief K unit j l ≤ total (strains K unit j (suc l)) (onto b (x ∷ a))
 
   fuses : (l : ℕ) (b : List (Item K (suc l))) (x : Item K (suc l)) (a : List (Item K (suc l))) →
-      2 ≤ length (onto b (x ∷ a)) → All (Fit K unit (suc l)) b → All (Fit K unit (suc l)) a → All (Fit K unit l) x → suc (weight K (suc l) x) ≡ 2 * unit l → Fused l b x a
+      2 ≤ length (onto b (x ∷ a)) → AllByRecursion (Fit K unit (suc l)) b → AllByRecursion (Fit K unit (suc l)) a → AllByRecursion (Fit K unit l) x → suc (weight K (suc l) x) ≡ 2 * unit l → Fused l b x a
   fuses l (y ∷ b) x a two fb fa fx e =
       let w = total_append (weight K l) y x in
       let m = merges l (y ++ x) (all_append (Fit K unit l) y x fb.0.2 fx) (omega (arith, fb.0.0)) (omega (arith, fb.0.1)) in
@@ -82,11 +82,11 @@ module _ (K : Type 0) (unit : ℕ → ℕ) (units : Units unit) where
 
   pub record Mended (l : ℕ) (b : List (Item K (suc l))) (x : Item K (suc l)) (a : List (Item K (suc l))) : Type 0 where
     pub sum : total (weight K (suc l)) (mended K unit l b x a) ≡ total (weight K (suc l)) (onto b (x ∷ a))
-    pub fits : All (Fit K unit (suc l)) (mended K unit l b x a)
+    pub fits : AllByRecursion (Fit K unit (suc l)) (mended K unit l b x a)
     pub relieved : (j : ℕ) → total (strains K unit j (suc l)) (mended K unit l b x a) + cond (under K unit l x) (relief K unit j l) 0 ≤ total (strains K unit j (suc l)) (onto b (x ∷ a))
 
   pub mends : (l : ℕ) (b : List (Item K (suc l))) (x : Item K (suc l)) (a : List (Item K (suc l))) →
-      2 ≤ length (onto b (x ∷ a)) → All (Fit K unit (suc l)) b → All (Fit K unit (suc l)) a → All (Fit K unit l) x → 2 * unit l ≤ suc (weight K (suc l) x) → weight K (suc l) x ≤ 8 * unit l → Mended l b x a
+      2 ≤ length (onto b (x ∷ a)) → AllByRecursion (Fit K unit (suc l)) b → AllByRecursion (Fit K unit (suc l)) a → AllByRecursion (Fit K unit l) x → 2 * unit l ≤ suc (weight K (suc l) x) → weight K (suc l) x ≤ 8 * unit l → Mended l b x a
   mends l b x a two fb fa fx low high = go (under K unit l x) refl
     where
       go : (o : Bool) → under K unit l x ≡ o → Mended l b x a
@@ -104,10 +104,10 @@ two_onto b x y a t = omega (arith, length_onto b (x ∷ a), length_onto b (y ∷
 module _ {K : Type 0} (order : K → K → Ordering) (unit : ℕ → ℕ) (units : Units unit) where
   pub record Deleted (l : ℕ) (k : K) (x : Item K (suc l)) : Type 0 where
     pub sum : suc (weight K (suc l) (del order unit l k x)) ≡ weight K (suc l) x
-    pub fits : All (Fit K unit l) (del order unit l k x)
+    pub fits : AllByRecursion (Fit K unit l) (del order unit l k x)
     pub paid : (j : ℕ) → total (strains K unit j l) (del order unit l k x) + price (unit j) (del_mark order unit j l k x) ≤ total (strains K unit j l) x + cond (ltb j l) 1 0
 
-  pub deleted : (l : ℕ) (k : K) (x : Item K (suc l)) → Kids K unit l x → All (Fit K unit l) x → is_some (find_down order l k x) ≡ true → Deleted l k x
+  pub deleted : (l : ℕ) (k : K) (x : Item K (suc l)) → Kids K unit l x → AllByRecursion (Fit K unit l) x → is_some (find_down order l k x) ≡ true → Deleted l k x
   deleted zero k x s f e = record {
     sum = cut_weight order k x e;
     fits = all_unit (cut order k x);

@@ -3,7 +3,7 @@ use Rattle.std.proofs.Common.{◌≡◌, ℕ, zero, suc, ◌*◌, Bool, true, fa
 use Rattle.std.proofs.lemmas.List.{length-append}
 use Rattle.std.proofs.lemmas.Bool.{true≢false}
 use Rattle.std.specs.Ordering.{is_le}
-use Rattle.std.specs.List.{AllByRecursion as All}
+use Rattle.std.specs.List.{AllByRecursion}
 use Rattle.keys.specs.Orders.{Orderly}
 use Rattle.keys.specs.Totals.{less_below}
 use Rattle.plain.specs.Plain.{Sorted, find, present, put, cut}
@@ -93,10 +93,10 @@ module _ {K : Type 0} {order : K → K → Ordering} (o : Orderly order) (unit :
   lows : (l : ℕ) (k : K) (b : List (Item K l)) (x : Item K l) (ps : List (Pair K)) → First l x → Passed (starts order l k) b x → Sorted order (Front l b ++ (pairs K l x ++ ps)) → Low order k (Front l b)
   lows l k [] x ps f p a = tt
   lows l k (y ∷ b) x ps f p a =
-      let across : All (λ r. All (λ s. order r.key s.key ≡ Less) (f.q ∷ f.rest ++ ps)) (Front l (y ∷ b)) = sorted_across order (Front l (y ∷ b)) (f.q ∷ f.rest ++ ps) (rw f.is at a) in
-      all_map (λ r. All (λ s. order r.key s.key ≡ Less) (f.q ∷ f.rest ++ ps)) (λ r. order r.key k ≡ Less) (Front l (y ∷ b)) (λ r z. less_below o r.key f.q.key k z.0 (sym (f.tells k) ∙ p)) across
+      let across : AllByRecursion (λ r. AllByRecursion (λ s. order r.key s.key ≡ Less) (f.q ∷ f.rest ++ ps)) (Front l (y ∷ b)) = sorted_across order (Front l (y ∷ b)) (f.q ∷ f.rest ++ ps) (rw f.is at a) in
+      all_map (λ r. AllByRecursion (λ s. order r.key s.key ≡ Less) (f.q ∷ f.rest ++ ps)) (λ r. order r.key k ≡ Less) (Front l (y ∷ b)) (λ r z. less_below o r.key f.q.key k z.0 (sym (f.tells k) ∙ p)) across
 
-  pub above : (l : ℕ) (k : K) (a : List (Item K l)) → All (Fit K unit l) a → Stops (starts order l k) a → Sorted order (joined (pairs K l) a) → High order k (joined (pairs K l) a)
+  pub above : (l : ℕ) (k : K) (a : List (Item K l)) → AllByRecursion (Fit K unit l) a → Stops (starts order l k) a → Sorted order (joined (pairs K l) a) → High order k (joined (pairs K l) a)
   above l k [] f s a = tt
   above l k (y ∷ ys) f s a =
       let r = first l y f.0 in
@@ -104,7 +104,7 @@ module _ {K : Type 0} {order : K → K → Ordering} (o : Orderly order) (unit :
       let a' : Sorted order (r.q ∷ r.rest ++ joined (pairs K l) ys) = rw r.is at a in
       rw r.is (g, highs o k r.q (r.rest ++ joined (pairs K l) ys) g a'.0)
 
-  pub around : (l : ℕ) (k : K) (c : Item K l) (cs : List (Item K l)) → All (Fit K unit l) (c ∷ cs) → Sorted order (joined (pairs K l) (c ∷ cs)) →
+  pub around : (l : ℕ) (k : K) (c : Item K l) (cs : List (Item K l)) → AllByRecursion (Fit K unit l) (c ∷ cs) → Sorted order (joined (pairs K l) (c ∷ cs)) →
       Around k (Front l (route order l k c cs).before) (pairs K l (route order l k c cs).here) (joined (pairs K l) (route order l k c cs).after)
   around l k c cs f a =
       let z = route order l k c cs in
@@ -123,11 +123,11 @@ module _ {K : Type 0} {order : K → K → Ordering} (o : Orderly order) (unit :
   pub record Opened (l : ℕ) (k : K) (c : Item K (suc l)) (cs : List (Item K (suc l))) : Type 0 where
     pub back : onto (route order (suc l) k c cs).before ((route order (suc l) k c cs).here ∷ (route order (suc l) k c cs).after) ≡ c ∷ cs
     pub whole : Front (suc l) (route order (suc l) k c cs).before ++ (pairs K (suc l) (route order (suc l) k c cs).here ++ joined (pairs K (suc l)) (route order (suc l) k c cs).after) ≡ joined (pairs K (suc l)) (c ∷ cs)
-    pub fit : All (Fit K unit (suc l)) (route order (suc l) k c cs).before × All (Fit K unit (suc l)) ((route order (suc l) k c cs).here ∷ (route order (suc l) k c cs).after)
+    pub fit : AllByRecursion (Fit K unit (suc l)) (route order (suc l) k c cs).before × AllByRecursion (Fit K unit (suc l)) ((route order (suc l) k c cs).here ∷ (route order (suc l) k c cs).after)
     pub kids_here : Kids K unit l (route order (suc l) k c cs).here
     pub parts : Around k (Front (suc l) (route order (suc l) k c cs).before) (pairs K (suc l) (route order (suc l) k c cs).here) (joined (pairs K (suc l)) (route order (suc l) k c cs).after)
 
-  pub opened : (l : ℕ) (k : K) (c : Item K (suc l)) (cs : List (Item K (suc l))) → All (Fit K unit (suc l)) (c ∷ cs) → Sorted order (joined (pairs K (suc l)) (c ∷ cs)) → Opened l k c cs
+  pub opened : (l : ℕ) (k : K) (c : Item K (suc l)) (cs : List (Item K (suc l))) → AllByRecursion (Fit K unit (suc l)) (c ∷ cs) → Sorted order (joined (pairs K (suc l)) (c ∷ cs)) → Opened l k c cs
   opened l k c cs f a =
       let z = route order (suc l) k c cs in
       let back : onto z.before (z.here ∷ z.after) ≡ c ∷ cs = seek_back (starts order (suc l) k) [] c cs in
@@ -140,7 +140,7 @@ module _ {K : Type 0} {order : K → K → Ordering} (o : Orderly order) (unit :
         parts = around (suc l) k c cs f a;
       }
 
-  pub flat_ins : (l : ℕ) (k : K) (h : ℕ) (x : Item K (suc l)) → Kids K unit l x → All (Fit K unit l) x → Sorted order (pairs K (suc l) x) → pairs K (suc l) (ins order unit l k h x) ≡ put order k h (pairs K (suc l) x)
+  pub flat_ins : (l : ℕ) (k : K) (h : ℕ) (x : Item K (suc l)) → Kids K unit l x → AllByRecursion (Fit K unit l) x → Sorted order (pairs K (suc l) x) → pairs K (suc l) (ins order unit l k h x) ≡ put order k h (pairs K (suc l) x)
   flat_ins zero k h x s f a = flat_leaf K (put order k h x) ∙ ap (put order k h) (sym (flat_leaf K x))
   flat_ins (suc l) k h [] s f a = absurd (omega arith)
   flat_ins (suc l) k h (c ∷ cs) s f a =
@@ -156,7 +156,7 @@ module _ {K : Type 0} {order : K → K → Ordering} (o : Orderly order) (unit :
       ∙ sym (put_after order k h b (P z.here ++ e) r.parts.low)
       ∙ ap (put order k h) r.whole
 
-  pub flat_find : (l : ℕ) (k : K) (x : Item K (suc l)) → Kids K unit l x → All (Fit K unit l) x → Sorted order (pairs K (suc l) x) → find_down order l k x ≡ find order k (pairs K (suc l) x)
+  pub flat_find : (l : ℕ) (k : K) (x : Item K (suc l)) → Kids K unit l x → AllByRecursion (Fit K unit l) x → Sorted order (pairs K (suc l) x) → find_down order l k x ≡ find order k (pairs K (suc l) x)
   flat_find zero k x s f a = ap (find order k) (sym (flat_leaf K x))
   flat_find (suc l) k [] s f a = absurd (omega arith)
   flat_find (suc l) k (c ∷ cs) s f a =
@@ -169,7 +169,7 @@ module _ {K : Type 0} {order : K → K → Ordering} (o : Orderly order) (unit :
       ∙ sym (find_after order k (Front (suc l) z.before) (P z.here ++ e) r.parts.low)
       ∙ ap (find order k) r.whole
 
-  pub flat_del : (l : ℕ) (k : K) (x : Item K (suc l)) → Kids K unit l x → All (Fit K unit l) x → Sorted order (pairs K (suc l) x) → is_some (find_down order l k x) ≡ true →
+  pub flat_del : (l : ℕ) (k : K) (x : Item K (suc l)) → Kids K unit l x → AllByRecursion (Fit K unit l) x → Sorted order (pairs K (suc l) x) → is_some (find_down order l k x) ≡ true →
       pairs K (suc l) (del order unit l k x) ≡ cut order k (pairs K (suc l) x)
   flat_del zero k x s f a g = flat_leaf K (cut order k x) ∙ ap (cut order k) (sym (flat_leaf K x))
   flat_del (suc l) k [] s f a g = absurd (omega arith)
@@ -189,14 +189,14 @@ module _ {K : Type 0} {order : K → K → Ordering} (o : Orderly order) (unit :
       ∙ ap (cut order k) r.whole
 
   -- no child after the place starts at k or below
-  start_high : (l : ℕ) (k : K) (a : List (Item K l)) → All (Fit K unit l) a → High order k (joined (pairs K l) a) → All (λ y. starts order l k y ≡ false) a
+  start_high : (l : ℕ) (k : K) (a : List (Item K l)) → AllByRecursion (Fit K unit l) a → High order k (joined (pairs K l) a) → AllByRecursion (λ y. starts order l k y ≡ false) a
   start_high l k [] f h = tt
   start_high l k (y ∷ ys) f h =
       let r = first l y f.0 in
       let h' : High order k (r.q ∷ r.rest ++ joined (pairs K l) ys) = rw r.is at h in
       (r.tells k ∙ ap is_le h'.0, start_high l k ys f.1 (all_back (λ p. order p.key k ≡ Greater) (pairs K l y) (joined (pairs K l) ys) h))
 
-  pub later_apart : (l : ℕ) (k : K) (c : Item K l) (cs : List (Item K l)) → All (Fit K unit l) (c ∷ cs) → Sorted order (joined (pairs K l) (c ∷ cs)) → All (λ y. starts order l k y ≡ false) (route order l k c cs).after
+  pub later_apart : (l : ℕ) (k : K) (c : Item K l) (cs : List (Item K l)) → AllByRecursion (Fit K unit l) (c ∷ cs) → Sorted order (joined (pairs K l) (c ∷ cs)) → AllByRecursion (λ y. starts order l k y ≡ false) (route order l k c cs).after
   later_apart l k c cs f a =
       let z = route order l k c cs in
       let back : onto z.before (z.here ∷ z.after) ≡ c ∷ cs = seek_back (starts order l k) [] c cs in

@@ -2,7 +2,7 @@
 use Rattle.std.proofs.Common.{◌≡◌, ℕ, zero, suc, ◌+◌, ◌≤◌, Bool, true, false, cond, eqb, ltb, List, [], ◌∷◌, ◌++◌, length, Ordering, sym, refl, ap, arith}
 use Rattle.std.proofs.lemmas.Bool.{eqb-true}
 use Rattle.std.proofs.lemmas.List.{length-append}
-use Rattle.std.specs.List.{AllByRecursion as All}
+use Rattle.std.specs.List.{AllByRecursion}
 use Rattle.std.specs.Ordering.{is_le}
 use Rattle.plain.specs.Plain.{put}
 use Rattle.plain.specs.declared.pair.Pair.{Pair}
@@ -54,10 +54,10 @@ module _ {K : Type 0} (order : K → K → Ordering) (unit : ℕ → ℕ) (units
   pub record Inserted (l : ℕ) (k : K) (h : ℕ) (x : Item K (suc l)) : Type 0 where
     pub sum : weight K (suc l) (ins order unit l k h x) ≡ suc (weight K (suc l) x)
     pub two : Kids K unit l (ins order unit l k h x)
-    pub fits : All (Fit K unit l) (ins order unit l k h x)
+    pub fits : AllByRecursion (Fit K unit l) (ins order unit l k h x)
     pub paid : (j : ℕ) → total (strains K unit j l) (ins order unit l k h x) + price (unit j) (ins_mark order unit j l k h x) ≤ total (strains K unit j l) x + cond (ltb j l) 1 0
 
-  pub inserted : (l : ℕ) (k : K) (h : ℕ) (x : Item K (suc l)) → Kids K unit l x → All (Fit K unit l) x → Inserted l k h x
+  pub inserted : (l : ℕ) (k : K) (h : ℕ) (x : Item K (suc l)) → Kids K unit l x → AllByRecursion (Fit K unit l) x → Inserted l k h x
   inserted zero k h x s f = record {
     sum = put_weight order k h x;
     two = tt;

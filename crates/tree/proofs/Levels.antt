@@ -1,7 +1,7 @@
 -- One level: what a Split does to weights and strains.
 use Rattle.std.proofs.Common.{◌≡◌, ℕ, zero, suc, ◌+◌, ◌*◌, ◌≤◌, Bool, true, false, cond, eqb, List, [], ◌∷◌, ◌++◌, length, sym, refl, ap, ◌∙◌, arith}
 use Rattle.std.proofs.lemmas.Bool.{leb-true, leb-false}
-use Rattle.std.specs.List.{AllByRecursion as All}
+use Rattle.std.specs.List.{AllByRecursion}
 use Rattle.plain.proofs.Alls.{all_front, all_back}
 use Rattle.tree.specs.Lists.{total}
 use Rattle.tree.specs.Tree.{Item, weight, Fit, Kids, left, right, over, grown}
@@ -55,7 +55,7 @@ module _ (K : Type 0) (unit : ℕ → ℕ) (units : Units unit) where
   light zero x f = units.some
   light (suc l) x f = omega (arith, units.grows l, f.1)
 
-  lights : (l : ℕ) (xs : List (Item K l)) → All (Fit K unit l) xs → All (λ x. 2 * weight K l x ≤ unit l) xs
+  lights : (l : ℕ) (xs : List (Item K l)) → AllByRecursion (Fit K unit l) xs → AllByRecursion (λ x. 2 * weight K l x ≤ unit l) xs
   lights l [] f = tt
   lights l (x ∷ xs) f = (light l x f.0, lights l xs f.1)
 
@@ -66,14 +66,14 @@ module _ (K : Type 0) (unit : ℕ → ℕ) (units : Units unit) where
     pub left_high : weight K (suc l) (left K unit l x) ≤ 7 * unit l
     pub right_low : 3 * unit l ≤ weight K (suc l) (right K unit l x)
     pub right_high : weight K (suc l) (right K unit l x) ≤ 7 * unit l
-    pub left_fits : All (Fit K unit l) (left K unit l x)
-    pub right_fits : All (Fit K unit l) (right K unit l x)
+    pub left_fits : AllByRecursion (Fit K unit l) (left K unit l x)
+    pub right_fits : AllByRecursion (Fit K unit l) (right K unit l x)
 
-  pub cut : (l : ℕ) (x : Item K (suc l)) → All (Fit K unit l) x → 7 * unit l ≤ weight K (suc l) x → weight K (suc l) x ≤ 10 * unit l → Cut l x
+  pub cut : (l : ℕ) (x : Item K (suc l)) → AllByRecursion (Fit K unit l) x → 7 * unit l ≤ weight K (suc l) x → weight K (suc l) x ≤ 10 * unit l → Cut l x
   cut l x f low high =
       let t : ℕ = weight K (suc l) x in
       let both = halves (weight K l) t 0 x in
-      let f' : All (Fit K unit l) (left K unit l x ++ right K unit l x) = rw both f in
+      let f' : AllByRecursion (Fit K unit l) (left K unit l x ++ right K unit l x) = rw both f in
       let sums = total_append (weight K l) (left K unit l x) (right K unit l x) in
       let sum' : weight K (suc l) (left K unit l x) + weight K (suc l) (right K unit l x) ≡ t = sym sums ∙ ap (total (weight K l)) both in
       let lo = half_low (weight K l) t 0 x (omega arith) in
@@ -93,10 +93,10 @@ module _ (K : Type 0) (unit : ℕ → ℕ) (units : Units unit) where
   pub record Halved (l : ℕ) (x : Item K (suc l)) : Type 0 where
     pub whole : left K unit l x ++ right K unit l x ≡ x
     pub sum : weight K (suc l) (left K unit l x) + (weight K (suc l) (right K unit l x) + 0) ≡ weight K (suc l) x
-    pub fits : All (Fit K unit (suc l)) (left K unit l x ∷ right K unit l x ∷ [])
+    pub fits : AllByRecursion (Fit K unit (suc l)) (left K unit l x ∷ right K unit l x ∷ [])
     pub strained : (j : ℕ) → strains K unit j (suc l) (left K unit l x) + (strains K unit j (suc l) (right K unit l x) + 0) ≡ total (strains K unit j l) x
 
-  pub halved : (l : ℕ) (x : Item K (suc l)) → All (Fit K unit l) x → 7 * unit l ≤ weight K (suc l) x → weight K (suc l) x ≤ 10 * unit l → Halved l x
+  pub halved : (l : ℕ) (x : Item K (suc l)) → AllByRecursion (Fit K unit l) x → 7 * unit l ≤ weight K (suc l) x → weight K (suc l) x ≤ 10 * unit l → Halved l x
   halved l x f low high =
       let c = cut l x f low high in
       let some = unit_some unit units l in
@@ -115,11 +115,11 @@ module _ (K : Type 0) (unit : ℕ → ℕ) (units : Units unit) where
   -- what stands in the place of a node after an insertion
   pub record Grown (l : ℕ) (x : Item K (suc l)) : Type 0 where
     pub sum : total (weight K (suc l)) (grown K unit l x) ≡ weight K (suc l) x
-    pub fits : All (Fit K unit (suc l)) (grown K unit l x)
+    pub fits : AllByRecursion (Fit K unit (suc l)) (grown K unit l x)
     pub some : 1 ≤ length (grown K unit l x)
     pub relieved : (j : ℕ) → total (strains K unit j (suc l)) (grown K unit l x) + cond (over K unit l x) (relief K unit j l) 0 ≤ strains K unit j (suc l) x
 
-  pub grows : (l : ℕ) (x : Item K (suc l)) → All (Fit K unit l) x → 2 * unit l ≤ weight K (suc l) x → weight K (suc l) x ≤ suc (8 * unit l) → Grown l x
+  pub grows : (l : ℕ) (x : Item K (suc l)) → AllByRecursion (Fit K unit l) x → 2 * unit l ≤ weight K (suc l) x → weight K (suc l) x ≤ suc (8 * unit l) → Grown l x
   grows l x f low high = go (over K unit l x) refl
     where
       go : (b : Bool) → over K unit l x ≡ b → Grown l x

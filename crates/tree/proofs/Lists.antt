@@ -1,6 +1,6 @@
 -- Weights of lists, of their halves and of a place in them.
 use Rattle.std.proofs.Common.{◌≡◌, ℕ, ◌+◌, ◌*◌, ◌≤◌, Bool, true, false, cond, List, [], ◌∷◌, ◌++◌, length, sym, refl, ap, ◌∙◌, append_assoc, append-nil, arith}
-use Rattle.std.specs.List.{AllByRecursion as All}
+use Rattle.std.specs.List.{AllByRecursion}
 use Rattle.tree.specs.Lists.{total, onto, joined, first_half, second_half, seek}
 
 pub total_append : {X : Type 0} (w : X → ℕ) (xs ys : List X) → total w (xs ++ ys) ≡ total w xs + total w ys
@@ -11,11 +11,11 @@ pub total_onto : {X : Type 0} (w : X → ℕ) (b xs : List X) → total w (onto 
 total_onto w [] xs = omega arith
 total_onto w (x ∷ b) xs = omega (arith, total_onto w b (x ∷ xs))
 
-pub all_onto : {X : Type 0} (P : X → Type 0) (b xs : List X) → All P b → All P xs → All P (onto b xs)
+pub all_onto : {X : Type 0} (P : X → Type 0) (b xs : List X) → AllByRecursion P b → AllByRecursion P xs → AllByRecursion P (onto b xs)
 all_onto P [] xs p q = q
 all_onto P (x ∷ b) xs p q = all_onto P b (x ∷ xs) p.1 (p.0, q)
 
-pub all_of_onto : {X : Type 0} (P : X → Type 0) (b xs : List X) → All P (onto b xs) → All P b × All P xs
+pub all_of_onto : {X : Type 0} (P : X → Type 0) (b xs : List X) → AllByRecursion P (onto b xs) → AllByRecursion P b × AllByRecursion P xs
 all_of_onto P [] xs p = (tt, p)
 all_of_onto P (x ∷ b) xs p = let r = all_of_onto P b (x ∷ xs) p in ((r.1.0, r.0), r.1.1)
 
@@ -28,7 +28,7 @@ pub half_low : {X : Type 0} (w : X → ℕ) (t a : ℕ) (xs : List X) → 2 * a 
 half_low w t a [] h = omega arith
 half_low w t a (x ∷ xs) h = let ih = half_low w t (a + w x) xs in grind arith
 
-pub half_high : {X : Type 0} (w : X → ℕ) (u t a : ℕ) (xs : List X) → All (λ x. 2 * w x ≤ u) xs → t ≡ a + total w xs → t ≤ 2 * (a + total w (first_half w t a xs)) + u
+pub half_high : {X : Type 0} (w : X → ℕ) (u t a : ℕ) (xs : List X) → AllByRecursion (λ x. 2 * w x ≤ u) xs → t ≡ a + total w xs → t ≤ 2 * (a + total w (first_half w t a xs)) + u
 half_high w u t a [] p e = omega arith
 half_high w u t a (x ∷ xs) p e = let ih = half_high w u t (a + w x) xs p.1 (omega arith) in grind arith
 
@@ -85,6 +85,6 @@ pub total_none : {X : Type 0} (xs : List X) → total (λ (x : X). 0) xs ≡ 0
 total_none [] = refl
 total_none (x ∷ xs) = omega (arith, total_none xs)
 
-pub all_unit : {X : Type 0} (xs : List X) → All (λ (x : X). Unit {0}) xs
+pub all_unit : {X : Type 0} (xs : List X) → AllByRecursion (λ (x : X). Unit {0}) xs
 all_unit [] = tt
 all_unit (x ∷ xs) = (tt, all_unit xs)

@@ -1,6 +1,6 @@
 -- Going down the tree answers as the plain list does.
 use Rattle.std.proofs.Common.{◌≡◌, ℕ, zero, suc, ◌+◌, Bool, true, false, cond, ◌&&◌, List, [], ◌∷◌, ◌++◌, length, None, filter, Ordering, Less, Greater, sym, refl, ap, ◌∙◌, append-nil, arith}
-use Rattle.std.specs.List.{last_or, AllByRecursion as All}
+use Rattle.std.specs.List.{last_or, AllByRecursion}
 use Rattle.std.specs.Ordering.{is_lt, is_le, is_ge}
 use Rattle.keys.specs.Orders.{Orderly}
 use Rattle.keys.specs.Sorted.{how_many}
@@ -40,7 +40,7 @@ module _ {K : Type 0} {order : K → K → Ordering} (o : Orderly order) (unit :
   floor_mid l k [] x f p = refl
   floor_mid l k (y ∷ b) x f p = rw f.is (simp (sym (f.tells k) ∙ p))
 
-  pub flat_floor : (l : ℕ) (k : K) (x : Item K (suc l)) → Kids K unit l x → All (Fit K unit l) x → Sorted order (pairs K (suc l) x) → floor_down order l k x ≡ floor order k (pairs K (suc l) x)
+  pub flat_floor : (l : ℕ) (k : K) (x : Item K (suc l)) → Kids K unit l x → AllByRecursion (Fit K unit l) x → Sorted order (pairs K (suc l) x) → floor_down order l k x ≡ floor order k (pairs K (suc l) x)
   flat_floor zero k x s f a = ap (floor order k) (sym (flat_leaf K x))
   flat_floor (suc l) k [] s f a = absurd (omega arith)
   flat_floor (suc l) k (c ∷ cs) s f a =
@@ -69,7 +69,7 @@ module _ {K : Type 0} {order : K → K → Ordering} (o : Orderly order) (unit :
         how_many_none p e (all_map (λ q. order q.key k ≡ Greater) (λ q. p q ≡ false) e (λ q s. ap test s ∙ greater) hi),
       )
 
-  pub flat_rank : (l : ℕ) (k : K) (x : Item K (suc l)) → Kids K unit l x → All (Fit K unit l) x → Sorted order (pairs K (suc l) x) → rank_down order l k x ≡ rank order k (pairs K (suc l) x)
+  pub flat_rank : (l : ℕ) (k : K) (x : Item K (suc l)) → Kids K unit l x → AllByRecursion (Fit K unit l) x → Sorted order (pairs K (suc l) x) → rank_down order l k x ≡ rank order k (pairs K (suc l) x)
   flat_rank zero k x s f a = ap (rank order k) (sym (flat_leaf K x))
   flat_rank (suc l) k [] s f a = absurd (omega arith)
   flat_rank (suc l) k (c ∷ cs) s f a =
@@ -84,7 +84,7 @@ module _ {K : Type 0} {order : K → K → Ordering} (o : Orderly order) (unit :
         ap (rank order k) r.whole,
       )
 
-  pub flat_up_to : (l : ℕ) (k : K) (x : Item K (suc l)) → Kids K unit l x → All (Fit K unit l) x → Sorted order (pairs K (suc l) x) → up_to_down order l k x ≡ up_to order k (pairs K (suc l) x)
+  pub flat_up_to : (l : ℕ) (k : K) (x : Item K (suc l)) → Kids K unit l x → AllByRecursion (Fit K unit l) x → Sorted order (pairs K (suc l) x) → up_to_down order l k x ≡ up_to order k (pairs K (suc l) x)
   flat_up_to zero k x s f a = ap (up_to order k) (sym (flat_leaf K x))
   flat_up_to (suc l) k [] s f a = absurd (omega arith)
   flat_up_to (suc l) k (c ∷ cs) s f a =
@@ -112,7 +112,7 @@ module _ {K : Type 0} {order : K → K → Ordering} (o : Orderly order) (unit :
 
   -- the children up to the first that starts above high, where each of them is known to answer
   visited : (l : ℕ) (low high : K) → ((x : Item K (suc l)) → Fit K unit (suc l) x → Sorted order (pairs K (suc l) x) → within_down order l low high x ≡ within order low high (pairs K (suc l) x)) →
-      (ys : List (Item K (suc l))) → All (Fit K unit (suc l)) ys → Sorted order (joined (pairs K (suc l)) ys) →
+      (ys : List (Item K (suc l))) → AllByRecursion (Fit K unit (suc l)) ys → Sorted order (joined (pairs K (suc l)) ys) →
       joined (within_down order l low high) (while (starts order (suc l) high) ys) ≡ within order low high (joined (pairs K (suc l)) ys)
   visited l low high known [] f a = refl
   visited l low high known (y ∷ ys) f a = go (starts order (suc l) high y) refl (visited l low high known ys f.1 (sorted_back order (pairs K (suc l) y) (joined (pairs K (suc l)) ys) a))
@@ -124,7 +124,7 @@ module _ {K : Type 0} {order : K → K → Ordering} (o : Orderly order) (unit :
           ∙ sym (kept_append (between low high) (pairs K (suc l) y) (joined (pairs K (suc l)) ys))
       go false e ih = sym (beyond low high (joined (pairs K (suc l)) (y ∷ ys)) (above o unit units (suc l) high (y ∷ ys) f e a))
 
-  pub flat_within : (l : ℕ) (low high : K) (x : Item K (suc l)) → Kids K unit l x → All (Fit K unit l) x → Sorted order (pairs K (suc l) x) → within_down order l low high x ≡ within order low high (pairs K (suc l) x)
+  pub flat_within : (l : ℕ) (low high : K) (x : Item K (suc l)) → Kids K unit l x → AllByRecursion (Fit K unit l) x → Sorted order (pairs K (suc l) x) → within_down order l low high x ≡ within order low high (pairs K (suc l) x)
   flat_within zero low high x s f a = ap (within order low high) (sym (flat_leaf K x))
   flat_within (suc l) low high [] s f a = absurd (omega arith)
   flat_within (suc l) low high (c ∷ cs) s f a =

@@ -1,7 +1,7 @@
 -- An update of a whole tree keeps the rules of weight, and pays for its rebalancings.
 use Rattle.std.proofs.Common.{◌≡◌, ℕ, zero, suc, ◌+◌, ◌*◌, ◌<◌, ◌≤◌, Bool, true, false, cond, eqb, ltb, [], ◌∷◌, is_some, Ordering, sym, refl, ap, inl, inr, arith}
 use Rattle.std.proofs.lemmas.Bool.{leb-true, leb-false, eqb-true, cases_lt}
-use Rattle.std.specs.List.{AllByRecursion as All}
+use Rattle.std.specs.List.{AllByRecursion}
 use Rattle.tree.specs.Lists.{total}
 use Rattle.tree.specs.Tree.{Item, Tree, Weighed, adds, drops, weight, size, Fit, Kids, left, right, over, ins, ins_mark, del, lowered, raised, updated, mark}
 use Rattle.tree.specs.Queries.{find_down}
@@ -93,7 +93,7 @@ module _ {K : Type 0} (order : K → K → Ordering) (unit : ℕ → ℕ) (units
                 (total (strains K unit j l) y) (total (strains K unit j l) x) (cond (ltb j l) 1 0) (rw i.sum (root_up (unit l) (weight K (suc l) x))) (i.paid j) (below j l));
           }
 
-  heavy : (l : ℕ) (x : Item K (suc (suc l))) → Kids K unit (suc l) x → All (Fit K unit (suc l)) x → 2 ≤ weight K (suc (suc l)) x
+  heavy : (l : ℕ) (x : Item K (suc (suc l))) → Kids K unit (suc l) x → AllByRecursion (Fit K unit (suc l)) x → 2 ≤ weight K (suc (suc l)) x
   heavy l [] two f = absurd (omega arith)
   heavy l (c ∷ cs) two f = omega (arith, f.0.0, unit_some unit units l)
 
@@ -101,8 +101,8 @@ module _ {K : Type 0} (order : K → K → Ordering) (unit : ℕ → ℕ) (units
     weighed : Weighed K unit (lowered K l y)
     strained : (j : ℕ) → tree_strain K unit j (lowered K l y) ≤ cond (eqb j l) (root_strain (unit l) (weight K (suc l) y)) 0 + total (strains K unit j l) y
 
-  lowers : (l : ℕ) (x y : Item K (suc l)) → Kids K unit l x → All (Fit K unit l) x → suc (weight K (suc l) y) ≡ weight K (suc l) x →
-      weight K (suc l) y ≤ 8 * unit l → All (Fit K unit l) y → Lowered l y
+  lowers : (l : ℕ) (x y : Item K (suc l)) → Kids K unit l x → AllByRecursion (Fit K unit l) x → suc (weight K (suc l) y) ≡ weight K (suc l) x →
+      weight K (suc l) y ≤ 8 * unit l → AllByRecursion (Fit K unit l) y → Lowered l y
   lowers zero x y two fx e high f = record { weighed = record { limit = high; two = tt; fits = f }; strained = λ j. omega arith }
   lowers (suc l) x [] two fx e high f = absurd (omega (arith, heavy l x two fx))
   lowers (suc l) x (c ∷ []) two fx e high f = record {

@@ -2,7 +2,7 @@
 use Rattle.std.proofs.Common.{◌≡◌, ℕ, zero, suc, ◌+◌, ◌-◌, ◌*◌, ◌/◌, ◌<◌, ◌≤◌, Bool, true, false, ◌⊎◌, List, [], ◌∷◌, ◌++◌, map, length, get_or, take, drop, Ordering, sym, refl, ap, ◌∙◌, inl, inr, arith}
 use Rattle.std.proofs.lemmas.List.{take_at, drop_at, get_or_at, get_or-append_right, length-append, append_assoc, take-map, drop-map, length-map}
 use Rattle.std.proofs.lemmas.Bool.{le-leb, cases_order, both_ways}
-use Rattle.std.specs.List.{AllByRecursion as All}
+use Rattle.std.specs.List.{AllByRecursion}
 use Rattle.keys.specs.Orders.{Orderly}
 use Rattle.plain.specs.Plain.{Sorted}
 use Rattle.tree.specs.Lists.{total, first_half, second_half, onto, joined}
@@ -78,12 +78,12 @@ by_number b x a cs e =
       is_after = ap (drop (suc (length b))) further ∙ drop_at (onto (x ∷ b) []) a (suc (length b)) (omega (arith, length_onto (x ∷ b) []));
     }
 
-all_get_d : {X : Type 0} (P : X → Type 0) (xs : List X) (j : ℕ) (d : X) → All P xs → j < length xs → P (get_or xs j d)
+all_get_d : {X : Type 0} (P : X → Type 0) (xs : List X) (j : ℕ) (d : X) → AllByRecursion P xs → j < length xs → P (get_or xs j d)
 all_get_d P [] j d p h = absurd (omega arith)
 all_get_d P (x ∷ xs) zero d p h = p.0
 all_get_d P (x ∷ xs) (suc j) d p h = all_get_d P xs j d p.1 (omega arith)
 
-last_place : {X : Type 0} (p : X → Bool) (b : List X) (x : X) (a cs : List X) (d : X) → onto b (x ∷ a) ≡ cs → All (λ y. p y ≡ false) a → (j : ℕ) → length b < j → j < length cs → p (get_or cs j d) ≡ false
+last_place : {X : Type 0} (p : X → Bool) (b : List X) (x : X) (a cs : List X) (d : X) → onto b (x ∷ a) ≡ cs → AllByRecursion (λ y. p y ≡ false) a → (j : ℕ) → length b < j → j < length cs → p (get_or cs j d) ≡ false
 last_place p b x a cs d e f j h within =
     let n = length_onto (x ∷ b) [] in
     let m = length_onto b (x ∷ a) in
@@ -111,7 +111,7 @@ module _ {K : Type 0} (order : K → K → Ordering) where
   }
 
 module _ {K : Type 0} {order : K → K → Ordering} (o : Orderly order) (unit : ℕ → ℕ) (units : Units unit) where
-  pub route_last : (l : ℕ) (k : K) (c : Item K l) (cs : List (Item K l)) → All (Fit K unit l) (c ∷ cs) → Sorted order (joined (pairs K l) (c ∷ cs)) → LastChild order l k c cs (length (route order l k c cs).before)
+  pub route_last : (l : ℕ) (k : K) (c : Item K l) (cs : List (Item K l)) → AllByRecursion (Fit K unit l) (c ∷ cs) → Sorted order (joined (pairs K l) (c ∷ cs)) → LastChild order l k c cs (length (route order l k c cs).before)
   route_last l k c cs f a =
       let z = route order l k c cs in
       let back : onto z.before (z.here ∷ z.after) ≡ c ∷ cs = seek_back (starts order l k) [] c cs in
@@ -129,7 +129,7 @@ module _ {K : Type 0} {order : K → K → Ordering} (o : Orderly order) (unit :
   route_at l k c cs = let z = route order l k c cs in let n = by_number z.before z.here z.after (c ∷ cs) (seek_back (starts order l k) [] c cs) in record { put_back = n.put_back; is_here = n.is_here; is_after = n.is_after }
 
   -- whoever finds the last child by its number has the place
-  pub way_down : (l : ℕ) (k : K) (c : Item K l) (cs : List (Item K l)) → All (Fit K unit l) (c ∷ cs) → Sorted order (joined (pairs K l) (c ∷ cs)) → (i : ℕ) → LastChild order l k c cs i → At (route order l k c cs) (c ∷ cs) i
+  pub way_down : (l : ℕ) (k : K) (c : Item K l) (cs : List (Item K l)) → AllByRecursion (Fit K unit l) (c ∷ cs) → Sorted order (joined (pairs K l) (c ∷ cs)) → (i : ℕ) → LastChild order l k c cs i → At (route order l k c cs) (c ∷ cs) i
   way_down l k c cs f a i last = rw (go (cases_order i (length (route order l k c cs).before)) (route_last l k c cs f a)) (route_at l k c cs)
     where
       go : {j : ℕ} → (i ≡ j) ⊎ ((i < j) ⊎ (j < i)) → LastChild order l k c cs j → i ≡ j

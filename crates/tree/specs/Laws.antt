@@ -1,7 +1,7 @@
 -- The laws of the tree, over any kind of key and any shape.
 use Rattle.std.specs.Prelude.{◌≡◌, ℕ, suc, ◌+◌, ◌-◌, ◌*◌, ◌/◌, ◌<◌, ◌≤◌, true, false, ◌⊎◌, List, [], ◌∷◌, ◌++◌, length, take, drop, slice_index_or}
 use Rattle.std.specs.declared.cmp.Ordering.{Ordering}
-use Rattle.std.specs.List.{AllByRecursion as All}
+use Rattle.std.specs.List.{AllByRecursion}
 use Rattle.plain.specs.Plain.{Sorted, find, floor, rank, within}
 use Rattle.plain.specs.declared.pair.Pair.{Pair}
 use Rattle.tree.specs.Lists.{total, joined, onto, Place}
@@ -54,7 +54,7 @@ module _ {K : Type 0} (order : K → K → Ordering) (s : Shape) where
   -- A node of at most 5 W / 4, as when just merged: a leaf has at most 5 / 4 of the leaf limit as pairs, any other at most 5 times the branching as children.
   pub record PlacesSuffice : Type 0 where
     pub leaf : (x : Item K 1) → weight K 1 x ≤ 10 * unit_of s 0 → length x ≤ 10 * s.eighth
-    pub inner : (l : ℕ) (x : Item K (suc (suc l))) → All (Fit K (unit_of s) (suc l)) x → weight K (suc (suc l)) x ≤ 10 * unit_of s (suc l) → length x ≤ 5 * s.branching
+    pub inner : (l : ℕ) (x : Item K (suc (suc l))) → AllByRecursion (Fit K (unit_of s) (suc l)) x → weight K (suc (suc l)) x ≤ 10 * unit_of s (suc l) → length x ≤ 5 * s.branching
 
   -- A node keeps its first items, the most that weigh no more than the rest, and gives the others away: a leaf its larger half.
   pub record Splits : Type 0 where
@@ -63,7 +63,7 @@ module _ {K : Type 0} (order : K → K → Ordering) (s : Shape) where
 
   -- The way down goes to the last child that starts at the key or below, or the first.
   abbrev pub WayDown : Type 0
-  WayDown = (l : ℕ) (k : K) (c : Item K l) (cs : List (Item K l)) → All (Fit K (unit_of s) l) (c ∷ cs) → Sorted order (joined (pairs K l) (c ∷ cs)) → (i : ℕ) × LastChild order l k c cs i × At (route order l k c cs) (c ∷ cs) i
+  WayDown = (l : ℕ) (k : K) (c : Item K l) (cs : List (Item K l)) → AllByRecursion (Fit K (unit_of s) l) (c ∷ cs) → Sorted order (joined (pairs K l) (c ∷ cs)) → (i : ℕ) × LastChild order l k c cs i × At (route order l k c cs) (c ∷ cs) i
 
 -- Going down a tree answers as the plain list of its pairs does.
 pub record Answers {K : Type 0} (order : K → K → Ordering) (t : Tree K) : Type 0 where

@@ -4,7 +4,7 @@ use Rattle.std.specs.declared.cmp.Ordering.{Ordering}
 use Rattle.std.proofs.Common.{lit≤}
 use Rattle.std.specs.Option.{option_map, unwrap_or}
 use Rattle.std.specs.Ordering.{is_le}
-use Rattle.std.specs.List.{AllByRecursion as All}
+use Rattle.std.specs.List.{AllByRecursion}
 use Rattle.tree.specs.Lists.{total, joined, onto, first_half, second_half, Place, seek}
 use Rattle.plain.specs.Plain.{Sorted, put, cut}
 use Rattle.tree.specs.declared.mark.Mark.{Mark}
@@ -57,7 +57,7 @@ module _ (K : Type 0) (unit : ℕ → ℕ) where
   -- an item below a root keeps the rules of weight: from W / 4 to W, and so does every node in it
   abbrev pub Fit : (l : ℕ) → Item K l → Type 0
   Fit zero x = Unit {0}
-  Fit (suc l) xs = (2 * unit l ≤ weight K (suc l) xs) × (weight K (suc l) xs ≤ 8 * unit l) × All (Fit l) xs
+  Fit (suc l) xs = (2 * unit l ≤ weight K (suc l) xs) × (weight K (suc l) xs ≤ 8 * unit l) × AllByRecursion (Fit l) xs
 
   -- an inner node has two children or more
   abbrev pub Kids : (l : ℕ) → Item K (suc l) → Type 0
@@ -176,7 +176,7 @@ size K t = weight K (suc t.level) t.root
 pub record Weighed (K : Type 0) (unit : ℕ → ℕ) (t : Tree K) : Type 0 where
   pub limit : size K t ≤ 8 * unit t.level
   pub two : Kids K unit t.level t.root
-  pub fits : All (Fit K unit t.level) t.root
+  pub fits : AllByRecursion (Fit K unit t.level) t.root
 
 -- All rules: those of weight, keys ascend across the leaves, the root stands no higher than the top.
 pub record Rules {K : Type 0} (order : K → K → Ordering) (unit : ℕ → ℕ) (top : ℕ) (t : Tree K) : Type 0 where
