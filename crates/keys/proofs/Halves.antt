@@ -14,10 +14,10 @@ lt_or_eq' : (m k : ℕ) → m ≤ k → (m < k) ⊎ (k ≡ m)
 lt_or_eq' m k h = grind arith
 
 -- within the list the default does not matter
-get_d_any : {X : Type 0} (xs : List X) (i : ℕ) (d e : X) → i < length xs → get_or xs i d ≡ get_or xs i e
-get_d_any [] i d e h = absurd (omega arith)
-get_d_any (x ∷ xs) zero d e h = refl
-get_d_any (x ∷ xs) (suc i) d e h = get_d_any xs i d e (omega arith)
+get_or_any : {X : Type 0} (xs : List X) (i : ℕ) (d e : X) → i < length xs → get_or xs i d ≡ get_or xs i e
+get_or_any [] i d e h = absurd (omega arith)
+get_or_any (x ∷ xs) zero d e h = refl
+get_or_any (x ∷ xs) (suc i) d e h = get_or_any xs i d e (omega arith)
 
 all_at : {X : Type 0} (P : X → Type 0) (xs : List X) (i : ℕ) (d : X) → AllByRecursion P xs → i < length xs → P (get_or xs i d)
 all_at P [] i d a h = absurd (omega arith)
@@ -65,7 +65,7 @@ module _ {K : Type 0} {order : K → K → Ordering} (o : Orderly order) (equal 
   front_at h k d l = go (lt_or_eq k m l)
     where
       here : get_or xs m d ≡ x
-      here = get_d_any xs m d x within ∙ sym read
+      here = get_or_any xs m d x within ∙ sym read
 
       go : (k < m) ⊎ (k ≡ m) → passes equal (order (get_or xs k d) q) ≡ true
       go (inl b) =
@@ -78,7 +78,7 @@ module _ {K : Type 0} {order : K → K → Ordering} (o : Orderly order) (equal 
   back_at h k d l w = go (lt_or_eq' m k l)
     where
       here : get_or xs m d ≡ x
-      here = get_d_any xs m d x within ∙ sym read
+      here = get_or_any xs m d x within ∙ sym read
 
       go : (m < k) ⊎ (k ≡ m) → passes equal (order (get_or xs k d) q) ≡ false
       go (inl b) = fails (passes equal (order (get_or xs k d) q)) refl

@@ -1,5 +1,5 @@
 -- What a quota means, from what the store below means.
-use Rattle.std.specs.Prelude.{cond, ◌&&◌, ◌∷◌, ℕ, min, eqb, leb}
+use Rattle.std.specs.Prelude.{cond, ◌&&◌, ◌∷◌, ℕ, min, ◌==◌, nat_le}
 use Rattle.store.specs.declared.fault.Refusal.{Refusal}
 use Rattle.store.specs.declared.fault.Refusal.TheVariants.{NoRoom}
 use Rattle.store.specs.Faults.{number_of, one_deeper}
@@ -7,7 +7,7 @@ use Rattle.store.specs.Meaning.{Shape, Meaning}
 
 -- with q or more granted the quota itself has no room; every other refusal arose one layer further down
 abbrev pub quota_depth : ℕ → (Refusal → ℕ → ℕ) → Refusal → ℕ → ℕ
-quota_depth q depth r n = cond (eqb (number_of r) (number_of NoRoom) && leb q n) 1 (one_deeper (depth r n))
+quota_depth q depth r n = cond (number_of r == number_of NoRoom && nat_le q n) 1 (one_deeper (depth r n))
 
 -- the smaller capacity
 abbrev pub quota_shape : ℕ → Shape → Shape

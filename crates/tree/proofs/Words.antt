@@ -1,6 +1,7 @@
 -- The splits and the way down are those of the rules.
 use Rattle.std.proofs.Common.{◌≡◌, ℕ, zero, suc, ◌+◌, ◌-◌, ◌*◌, ◌/◌, ◌<◌, ◌≤◌, Bool, true, false, ◌⊎◌, List, [], ◌∷◌, ◌++◌, map, length, get_or, take, drop, Ordering, sym, refl, ap, ◌∙◌, inl, inr, arith}
 use Rattle.std.proofs.lemmas.List.{take_at, drop_at, get_or_at, get_or-append_right, length-append, append_assoc, take-map, drop-map, length-map}
+use Rattle.std.proofs.ByRecursion.{All-get_or}
 use Rattle.std.proofs.lemmas.Bool.{le-leb, cases_order, both_ways}
 use Rattle.std.specs.List.{AllByRecursion}
 use Rattle.keys.specs.Orders.{Orderly}
@@ -78,18 +79,13 @@ by_number b x a cs e =
       is_after = ap (drop (suc (length b))) further ∙ drop_at (onto (x ∷ b) []) a (suc (length b)) (omega (arith, length_onto (x ∷ b) []));
     }
 
-all_get_d : {X : Type 0} (P : X → Type 0) (xs : List X) (j : ℕ) (d : X) → AllByRecursion P xs → j < length xs → P (get_or xs j d)
-all_get_d P [] j d p h = absurd (omega arith)
-all_get_d P (x ∷ xs) zero d p h = p.0
-all_get_d P (x ∷ xs) (suc j) d p h = all_get_d P xs j d p.1 (omega arith)
-
 last_place : {X : Type 0} (p : X → Bool) (b : List X) (x : X) (a cs : List X) (d : X) → onto b (x ∷ a) ≡ cs → AllByRecursion (λ y. p y ≡ false) a → (j : ℕ) → length b < j → j < length cs → p (get_or cs j d) ≡ false
 last_place p b x a cs d e f j h within =
     let n = length_onto (x ∷ b) [] in
     let m = length_onto b (x ∷ a) in
     let whole = sym e ∙ onto_append (x ∷ b) a in
     let at : get_or cs j d ≡ get_or a (j - suc (length b)) d = ap (λ r. get_or r j d) whole ∙ get_or-append_right (onto (x ∷ b) []) a (suc (length b)) j d (omega arith) (omega arith) in
-    ap p at ∙ all_get_d (λ y. p y ≡ false) a (j - suc (length b)) d f (omega (arith, ap length e))
+    ap p at ∙ All-get_or (λ y. p y ≡ false) a (j - suc (length b)) d (omega (arith, ap length e)) f
 
 module _ {K : Type 0} (order : K → K → Ordering) where
   -- there is one such place

@@ -1,5 +1,5 @@
 -- A store by its marks and words, wherever the words of its blocks stand.
-use Rattle.std.specs.Prelude.{◌≡◌, ℕ, ◌+◌, ◌-◌, ◌<◌, ◌≤◌, min, Bool, true, false, cond, not, ◌&&◌, ltb, List, length, ◌==◌, ◌≢◌, nat_le, nat_lt, slice_index, slice_index_or, slice_set}
+use Rattle.std.specs.Prelude.{◌≡◌, ℕ, ◌+◌, ◌-◌, ◌<◌, ◌≤◌, min, Bool, true, false, cond, not, ◌&&◌, List, length, ◌==◌, ◌≢◌, nat_le, nat_lt, slice_index, slice_index_or, slice_set}
 use Rattle.std.proofs.Math.Path.{refl, ap, fun_ext}
 use Rattle.std.proofs.Common.{sym, ap₂, ◌∙◌, ⊎_elim}
 use native.Mathlib.Omega.{arith}
@@ -46,12 +46,12 @@ pub in_use_other : (c : ℕ) (marks : List ℕ) (a b x : ℕ) → 1 ≤ b → (a
 unfolding in_use
 in_use_other c marks a b x l ne = ⊎_elim on off (cases_Bool (nat_lt 0 a))
   where
-    on : ltb 0 a ≡ true → (nat_lt 0 a && (nat_le a c && not (slice_index (slice_set marks (b - 1) x) (a - 1) == 0))) ≡ (nat_lt 0 a && (nat_le a c && not (slice_index marks (a - 1) == 0)))
+    on : nat_lt 0 a ≡ true → (nat_lt 0 a && (nat_le a c && not (slice_index (slice_set marks (b - 1) x) (a - 1) == 0))) ≡ (nat_lt 0 a && (nat_le a c && not (slice_index marks (a - 1) == 0)))
     on t =
         let la : 1 ≤ a = ltb-true 0 a t in
         ap (λ y. nat_lt 0 a && (nat_le a c && not (y == 0))) (get_or-set_other marks (b - 1) (a - 1) x 0 (λ q. ne (omega arith)))
 
-    off : ltb 0 a ≡ false → (nat_lt 0 a && (nat_le a c && not (slice_index (slice_set marks (b - 1) x) (a - 1) == 0))) ≡ (nat_lt 0 a && (nat_le a c && not (slice_index marks (a - 1) == 0)))
+    off : nat_lt 0 a ≡ false → (nat_lt 0 a && (nat_le a c && not (slice_index (slice_set marks (b - 1) x) (a - 1) == 0))) ≡ (nat_lt 0 a && (nat_le a c && not (slice_index marks (a - 1) == 0)))
     off t = and_left (nat_lt 0 a) _ t ∙ sym (and_left (nat_lt 0 a) _ t)
 
 -- one block's words

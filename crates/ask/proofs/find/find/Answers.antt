@@ -1,16 +1,11 @@
-use Rattle.std.proofs.Common.{◌≡◌, true, Ordering, Less, Equal, Greater, sym, refl, ap, ◌∙◌, true≢false}
-use Rattle.std.specs.Prelude.{◌==◌}
-use Rattle.std.specs.Ordering.{ordering_index}
+use Rattle.std.proofs.Common.{sym, ap, ◌∙◌}
 use Rattle.std.proofs.lemmas.Bool.{both_ways}
+use Rattle.std.proofs.lemmas.Cmp.{is_eq_index}
+use Rattle.std.specs.Cmp.{Equal-is}
+use Rattle.std.specs.Ordering.{is_eq}
 use Rattle.copies.proofs.Exits.{raised}
 use Rattle.ask.proofs.Leaves.{handle_at, told_find, same_handle, other_handle}
 use Rattle.ask.proofs.find.find.Goals as goal
-
--- the test of equality that the code makes
-equal_index : (r : Ordering) → (ordering_index r == 1) ≡ true → r ≡ Equal
-equal_index Less e = absurd (true≢false (sym e))
-equal_index Equal e = refl
-equal_index Greater e = absurd (true≢false (sym e))
 
 pub returns-in_err-nearest : goal.returns-in_err-nearest
 returns-in_err-nearest g c = rw (raised _ _ c.from_residual.ensures) (λ h. c.in_err-nearest.ensures h)
@@ -34,7 +29,7 @@ returns-then-eq g c = λ h.
           let t = a.call p in
           record {
             value_is = told_find g.met.K.Key.ordered _ _ _ _ p.ascending t.value_is
-                (same_handle order _ _ (sym c.compare.ensures ∙ equal_index c.compare.result (sym c.eq.ensures ∙ c.if-eq.true)) ∙ sym (ap (handle_at order _) c.in-Some.is));
+                (same_handle order _ _ (sym c.compare.ensures ∙ (Equal-is c.compare.result).0 (is_eq_index _ ∙ sym c.eq.ensures ∙ c.if-eq.true)) ∙ sym (ap (handle_at order _) c.in-Some.is));
             same = t.same;
           };
       ready = a.ready;
@@ -49,7 +44,7 @@ returns-else-eq g c = λ h.
           let t = a.call p in
           record {
             value_is = told_find g.met.K.Key.ordered _ _ _ _ p.ascending t.value_is
-                (other_handle order _ _ (λ e. both_ways _ c.if-eq.false (c.eq.ensures ∙ ap (λ r. ordering_index r == 1) (c.compare.ensures ∙ e))) ∙ sym (ap (handle_at order _) c.in-Some.is));
+                (other_handle order _ _ (λ e. both_ways _ c.if-eq.false (c.eq.ensures ∙ sym (is_eq_index _) ∙ ap is_eq (c.compare.ensures ∙ e))) ∙ sym (ap (handle_at order _) c.in-Some.is));
             same = t.same;
           };
       ready = a.ready;

@@ -1,7 +1,7 @@
 use Rattle.std.proofs.Common.{◌+◌, ◌-◌, ◌/◌, sym, refl, ap, ◌∙◌, arith}
 use Rattle.std.proofs.lemmas.Bool.{both_ways}
-use Rattle.std.specs.Prelude.{◌==◌}
-use Rattle.std.specs.Ordering.{ordering_index}
+use Rattle.std.specs.Ordering.{is_gt}
+use Rattle.std.proofs.lemmas.Cmp.{is_gt_index}
 use Rattle.copies.proofs.Exits.{raised, lost_later, kin_same}
 use Rattle.nodes.specs.Places.{form}
 use Rattle.nodes.proofs.Rooms.{room_same, countable}
@@ -28,7 +28,7 @@ loop-low-preserved g c =
                 let s = i.call p e in
                 let x = k.call (room_same _ _ _ _ s.0 p) in
                 let is = key_there φ unpacked _ mid _ _ _ _ s.0 x in
-                (x.same ∙ s.0, between_up order _ _ q _ _ mid _ refl (λ y. both_ways _ c.if-eq.false (c.eq.ensures ∙ ap (λ r. ordering_index r == 2) (c.compare.ensures ∙ ap (λ z. order z q) is ∙ y))) s.1);
+                (x.same ∙ s.0, between_up order _ _ q _ _ mid _ refl (λ y. both_ways _ c.if-eq.false (c.eq.ensures ∙ sym (is_gt_index _) ∙ ap is_gt (c.compare.ensures ∙ ap (λ z. order z q) is ∙ y))) s.1);
             ready = k.ready;
           },
     )
