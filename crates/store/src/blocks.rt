@@ -2,11 +2,18 @@
 //
 // No call asks anything of its caller. A call on a store that is ready keeps its relation and leaves the store
 // ready; each maker of a store makes a ready one.
+ghost use Rattle.std.specs.Prelude.{◌≡◌, ◌-◌};
 ghost use Rattle.store.specs.Meaning.{Meaning, Sound};
 ghost use Rattle.store.specs.Calls.{Keeps, Take, Give, Get, Set, Stocked};
 ghost use Rattle.store.specs.Events.{Event, asked_take, asked_give, asked_get, asked_set, asked_stock};
 
 use crate::fault::Fault;
+
+// The most words that a block may have.
+pub const WIDEST: u32 = 512;
+
+// The largest block number that a store grants.
+pub const LARGEST_BLOCK: u32 = 1_048_575;
 
 // What a store holds: words to a block, blocks granted, and the most that may be.
 #[derive(Clone, Copy, PartialEq, Eq, Debug)]
@@ -14,6 +21,15 @@ pub struct Stock {
     pub width: u32,
     pub granted: u32,
     pub capacity: u32,
+}
+
+impl Stock {
+    // How many blocks can still be taken.
+    pub fn free(self) -> u32
+        ensures { result ≡ self.capacity - self.granted }
+    {
+        self.capacity.saturating_sub(self.granted)
+    }
 }
 
 pub trait Store {

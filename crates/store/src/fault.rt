@@ -1,13 +1,16 @@
 // Why a call was refused, at which block, and how many layers below the index it arose.
 ghost use Rattle.std.specs.Prelude.{◌≡◌, Some};
+ghost use Rattle.store.specs.declared.fault.Unmade.TheVariants.{Refused, NoMemory};
 ghost use Rattle.store.specs.Faults.{number_of, word_of, deeper, own_fault, in_words};
 
+use std::alloc::AllocError;
+use std::error::Error;
 use std::fmt;
 
-// Every refusal there is. Its number is fixed for good.
+// Every refusal there is, with its number, which is fixed for good.
 #[derive(Clone, Copy, PartialEq, Eq, Debug)]
 pub enum Refusal {
-    Down,
+    Down = 1,
     Damaged,
     Present,
     Absent,
@@ -24,18 +27,7 @@ impl Refusal {
     pub fn number(self) -> u32
         ensures { result ≡ number_of self }
     {
-        match self {
-            Refusal::Down => 1,
-            Refusal::Damaged => 2,
-            Refusal::Present => 3,
-            Refusal::Absent => 4,
-            Refusal::Full => 5,
-            Refusal::NoRoom => 6,
-            Refusal::Uneven => 7,
-            Refusal::NotGranted => 8,
-            Refusal::Outside => 9,
-            Refusal::Misfit => 10,
-        }
+        self as u32
     }
 
     // The refusal's word.
@@ -54,6 +46,15 @@ impl Refusal {
             Refusal::Outside => "outside",
             Refusal::Misfit => "misfit",
         }
+    }
+}
+
+// By the refusal's word.
+impl fmt::Display for Refusal {
+    ghost output = { λ r. Some (word_of r) };
+
+    fn fmt<W: fmt::Write>(&self, f: &mut fmt::Formatter<W>) -> fmt::Result {
+        f.write_str(self.word())
     }
 }
 
@@ -82,9 +83,8 @@ impl Fault {
         ensures { result ≡ deeper self }
     {
         Fault {
-            refusal: self.refusal,
-            block: self.block,
             depth: self.depth.saturating_add(1),
+            ..self
         }
     }
 }
@@ -94,13 +94,45 @@ impl fmt::Display for Fault {
     ghost output = { λ f. Some (in_words f) };
 
     fn fmt<W: fmt::Write>(&self, f: &mut fmt::Formatter<W>) -> fmt::Result {
-        let number = self.refusal.number();
-        let word = self.refusal.word();
-        let block = self.block;
-        let depth = self.depth;
         write!(
             f,
-            "refused with {number} ({word}), block {block}, {depth} layers down"
+            "refused with {} ({}), block {}, {} layers down",
+            self.refusal.number(),
+            self.refusal,
+            self.block,
+            self.depth
         )
     }
+}
+
+impl Error for Fault {}
+
+// Why a store, or the table of lines of a cache, was not made.
+#[derive(Clone, Copy, PartialEq, Eq, Debug)]
+pub enum Unmade {
+    Refused(Fault),
+    NoMemory,
+}
+
+impl From<Fault> for Unmade {
+    ghost from_gives = { λ f r. r ≡ Refused f };
+
+    fn from(fault: Fault) -> Unmade {
+        Unmade::Refused(fault)
+    }
+}
+
+impl From<AllocError> for Unmade {
+    ghost from_gives = { λ _ r. r ≡ NoMemory };
+
+    fn from(_: AllocError) -> Unmade {
+        Unmade::NoMemory
+    }
+}
+
+// What refused a value, with the value handed back: a store, or lent runs.
+#[derive(Drop)]
+pub struct Refused<E, T> {
+    pub cause: E,
+    pub back: T,
 }

@@ -1,4 +1,0 @@
-use Rattle.store.proofs.fault.FaultDisplay.fmt.Goals as goal
-
-pub returns-clause-writes : goal.returns-clause-writes
-returns-clause-writes g c = rw (← c.number-number.ensures, ← c.word-word.ensures) c.write.ensures.writes
