@@ -46,33 +46,31 @@ fn minutes_ascend(rt: HostRuntime) {
             serial: 0,
         },
     ];
-    for i in 0..5 {
-        assert_eq!(rt; below(&stamps, &stamps[i]), i);
-        assert_eq!(rt; up_to(&stamps, &stamps[i]), i + 1);
+    for (i, stamp) in stamps.iter().enumerate() {
+        assert_eq!(rt; below(&stamps, stamp), i);
+        assert_eq!(rt; up_to(&stamps, stamp), i + 1);
     }
 }
 
 #[test]
 fn bytes(rt: HostRuntime) {
-    let least = DocumentName::new([0; 32]);
-    let most = DocumentName::new([255; 32]);
+    let least = DocumentName::from([0; 32]);
+    let most = DocumentName::from([255; 32]);
     for i in 0..4 {
         assert_eq!(rt; least.word(i), 0);
         assert_eq!(rt; most.word(i), u64::MAX);
     }
     assert_eq!(rt;
-        DocumentName::from_words(&[0, 0, 0, 0]).compare(&least),
+        DocumentName::from_words(&[0, 0, 0, 0]).cmp(&least),
         Ordering::Equal
     );
     assert_eq!(rt;
-        DocumentName::from_words(&[u64::MAX; 4]).compare(&most),
+        DocumentName::from_words(&[u64::MAX; 4]).cmp(&most),
         Ordering::Equal
     );
-    assert_eq!(rt; least.compare(&most), Ordering::Less);
+    assert_eq!(rt; least.cmp(&most), Ordering::Less);
     assert_eq!(rt;
-        DocumentName::from_words(&[0, 0, 0, 255]).compare(&DocumentName::from_words(&[
-            0, 0, 0, 256
-        ]),),
+        DocumentName::from_words(&[0, 0, 0, 255]).cmp(&DocumentName::from_words(&[0, 0, 0, 256]),),
         Ordering::Less
     );
 }

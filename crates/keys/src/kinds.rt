@@ -25,19 +25,16 @@ use crate::checkpoint::Checkpoint;
 use crate::document::DocumentName;
 use crate::key::Key;
 use crate::stamp::DueStamp;
-use std::cmp::Ordering;
 
 // The word at a place, 0 past the end.
 fn word_at(words: &[u64], i: usize) -> u64
     ensures { result ≡ slice_index words.now i }
 {
-    if i < words.len() { words[i] } else { 0 }
+    words.get(i).copied().unwrap_or(0)
 }
 
 impl Key for Checkpoint {
     ghost width = { 1 };
-
-    ghost order = { checkpoint_order };
 
     ghost packed = { checkpoint_packed };
 
@@ -56,10 +53,6 @@ impl Key for Checkpoint {
 
     fn words() -> u32 {
         1
-    }
-
-    fn compare(&self, other: &Checkpoint) -> Ordering {
-        self.case.cmp(&other.case).then(self.step.cmp(&other.step))
     }
 
     fn word(&self, i: u32) -> u64 {
@@ -83,28 +76,18 @@ impl Key for Checkpoint {
 fn from_minute(minute: i64) -> u64
     ensures { result ≡ biased minute }
 {
-    if minute < 0 {
-        (minute - i64::MIN) as u64
-    } else {
-        minute as u64 + 9_223_372_036_854_775_808
-    }
+    (i128::from(minute) + 9_223_372_036_854_775_808) as u64
 }
 
 // word - 2^63
 fn to_minute(word: u64) -> i64
     ensures { result ≡ unbiased word }
 {
-    if word < 9_223_372_036_854_775_808 {
-        word as i64 + i64::MIN
-    } else {
-        (word - 9_223_372_036_854_775_808) as i64
-    }
+    (i128::from(word) - 9_223_372_036_854_775_808) as i64
 }
 
 impl Key for DueStamp {
     ghost width = { 2 };
-
-    ghost order = { stamp_order };
 
     ghost packed = { stamp_packed };
 
@@ -126,12 +109,6 @@ impl Key for DueStamp {
 
     fn words() -> u32 {
         2
-    }
-
-    fn compare(&self, other: &DueStamp) -> Ordering {
-        self.minute
-            .cmp(&other.minute)
-            .then(self.serial.cmp(&other.serial))
     }
 
     fn word(&self, i: u32) -> u64 {
@@ -157,8 +134,6 @@ impl Key for DueStamp {
 impl Key for DocumentName {
     ghost width = { 4 };
 
-    ghost order = { document_order };
-
     ghost packed = { document_packed };
 
     ghost unpacked = { document_unpacked };
@@ -176,10 +151,6 @@ impl Key for DocumentName {
 
     fn words() -> u32 {
         4
-    }
-
-    fn compare(&self, other: &DocumentName) -> Ordering {
-        self.bytes.cmp(&other.bytes)
     }
 
     fn word(&self, i: u32) -> u64 {
@@ -215,8 +186,12 @@ impl Key for DocumentName {
     }
 }
 
-// Of the shipped kinds, packed words compared as numbers, the first first, stand in the order of the keys.
+// The shipped kinds are ordered as their definitions say: checkpoints by case, then step; stamps by minute, then serial;
+// documents by their bytes, the first that differs deciding. Packed words compared as numbers, the first first, stand in the order of the keys.
 pub fn words_in_order()
+    ensures checkpoint_order { ⟦<Checkpoint as Ord>⟧.cmp ≡ checkpoint_order }
+    ensures stamp_order { ⟦<DueStamp as Ord>⟧.cmp ≡ stamp_order }
+    ensures document_order { ⟦<DocumentName as Ord>⟧.cmp ≡ document_order }
     ensures checkpoints { InOrder checkpoint_order checkpoint_packed }
     ensures stamps { InOrder stamp_order stamp_packed }
     ensures documents { InOrder document_order document_packed }

@@ -8,4 +8,5 @@ mod edges;
 pub mod key;
 pub mod kinds;
 pub mod search;
+mod shown;
 pub mod stamp;
