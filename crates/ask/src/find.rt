@@ -18,7 +18,7 @@ use store::fault::Fault;
 
 // The leaf that a key belongs to.
 fn leaf_of<K: Key, S: Store>(store: &mut S, root: u32, level: u32, key: &K) -> Result<u32, Fault>
-    ensures { Leaves S.meaning S.ready (Work (λ m. Sits (kind K.width K.order K.packed K.unpacked) index_unit m level root) (LeafOf (kind K.width K.order K.packed K.unpacked) level root key.now)) store.old result store.new }
+    ensures { Leaves S.meaning S.ready (Work (λ m. Sits (kind K.width K.cmp K.packed K.unpacked) index_unit m level root) (LeafOf (kind K.width K.cmp K.packed K.unpacked) level root key.now)) store.old result store.new }
 {
     let mut block = root;
     for depth in 0..level {
@@ -34,7 +34,7 @@ pub fn floor<K: Key, S: Store>(
     level: u32,
     key: &K,
 ) -> Result<Option<Pair<K>>, Fault>
-    ensures { Leaves S.meaning S.ready (Work (λ m. Sits (kind K.width K.order K.packed K.unpacked) index_unit m level root) (Tells (λ m. plain_floor K.order key.now (pairs_in (kind K.width K.order K.packed K.unpacked) m.words level root)))) store.old result store.new }
+    ensures { Leaves S.meaning S.ready (Work (λ m. Sits (kind K.width K.cmp K.packed K.unpacked) index_unit m level root) (Tells (λ m. plain_floor K.cmp key.now (pairs_in (kind K.width K.cmp K.packed K.unpacked) m.words level root)))) store.old result store.new }
 {
     let leaf = leaf_of(store, root, level, key)?;
     let n = keys_up_to(store, leaf, key)?;
@@ -53,12 +53,12 @@ pub fn find<K: Key, S: Store>(
     level: u32,
     key: &K,
 ) -> Result<Option<u64>, Fault>
-    ensures { Leaves S.meaning S.ready (Work (λ m. Sits (kind K.width K.order K.packed K.unpacked) index_unit m level root) (Tells (λ m. plain_find K.order key.now (pairs_in (kind K.width K.order K.packed K.unpacked) m.words level root)))) store.old result store.new }
+    ensures { Leaves S.meaning S.ready (Work (λ m. Sits (kind K.width K.cmp K.packed K.unpacked) index_unit m level root) (Tells (λ m. plain_find K.cmp key.now (pairs_in (kind K.width K.cmp K.packed K.unpacked) m.words level root)))) store.old result store.new }
 {
     let Some(nearest) = floor(store, root, level, key)? else {
         return Ok(None);
     };
-    if nearest.key.compare(key) == Ordering::Equal {
+    if nearest.key.cmp(key) == Ordering::Equal {
         Ok(Some(nearest.handle))
     } else {
         Ok(None)

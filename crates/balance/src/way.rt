@@ -21,7 +21,7 @@ pub struct Way {
 // The last child whose routing key is at most `key`, or the first.
 pub fn way_down<K: Key, S: Store>(store: &mut S, block: u32, key: &K) -> Result<Way, Fault>
     ensures within { elim result [ Ok w ↦ w.place < 80 | Err f ↦ Unit {0} ] }
-    ensures leads { Leaves S.meaning S.ready (Work (Peopled (form K.width) block) (Led (form K.width) K.order K.unpacked block key.now)) store.old result store.new }
+    ensures leads { Leaves S.meaning S.ready (Work (Peopled (form K.width) block) (Led (form K.width) K.cmp K.unpacked block key.now)) store.old result store.new }
 {
     let upto = keys_up_to(store, block, key)?;
     let place = upto.saturating_sub(1);

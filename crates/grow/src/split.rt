@@ -43,7 +43,7 @@ pub fn divide<K: Key, S: Store>(
 
 // The smaller of two keys.
 fn smaller<K: Key>(a: K, b: K) -> K {
-    if a.compare(&b) == Ordering::Greater {
+    if a.cmp(&b) == Ordering::Greater {
         b
     } else {
         a

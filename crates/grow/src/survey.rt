@@ -24,7 +24,7 @@ pub fn has_key<K: Key, S: Store>(store: &mut S, block: u32, key: &K) -> Result<b
         return Ok(false);
     }
     let last: K = entry_key(store, block, n - 1)?;
-    Ok(last.compare(key) == Ordering::Equal)
+    Ok(last.cmp(key) == Ordering::Equal)
 }
 
 // Looks down the way of a key from a node of this level.

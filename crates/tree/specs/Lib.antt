@@ -4,3 +4,4 @@ pub mod Runs
 pub mod Counts
 pub mod Queries
 pub mod Laws
+pub mod Letters

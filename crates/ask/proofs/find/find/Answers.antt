@@ -16,20 +16,20 @@ returns-in_default g c = λ h.
     record {
       call = λ p.
           let t = a.call p in
-          record { value_is = told_find g.met.K.Key.ordered _ _ _ _ p.ascending t.value_is (sym (ap (handle_at g.K.Key.order _) c.in_default.is)); same = t.same };
+          record { value_is = told_find g.met.K.Key.ordered _ _ _ _ p.ascending t.value_is (sym (ap (handle_at g.K.Ord.cmp _) c.in_default.is)); same = t.same };
       ready = a.ready;
     }
 
 pub returns-then-eq : goal.returns-then-eq
 returns-then-eq g c = λ h.
     let a = c.in_ok-nearest.ensures h in
-    let order = g.K.Key.order in
+    let order = g.K.Ord.cmp in
     record {
       call = λ p.
           let t = a.call p in
           record {
             value_is = told_find g.met.K.Key.ordered _ _ _ _ p.ascending t.value_is
-                (same_handle order _ _ (sym c.compare.ensures ∙ (Equal-is c.compare.result).0 (is_eq_index _ ∙ sym c.eq.ensures ∙ c.if-eq.true)) ∙ sym (ap (handle_at order _) c.in-Some.is));
+                (same_handle order _ _ (sym c.cmp.ensures ∙ (Equal-is c.cmp.result).0 (is_eq_index _ ∙ sym c.eq.ensures ∙ c.if-eq.true)) ∙ sym (ap (handle_at order _) c.in-Some.is));
             same = t.same;
           };
       ready = a.ready;
@@ -38,13 +38,13 @@ returns-then-eq g c = λ h.
 pub returns-else-eq : goal.returns-else-eq
 returns-else-eq g c = λ h.
     let a = c.in_ok-nearest.ensures h in
-    let order = g.K.Key.order in
+    let order = g.K.Ord.cmp in
     record {
       call = λ p.
           let t = a.call p in
           record {
             value_is = told_find g.met.K.Key.ordered _ _ _ _ p.ascending t.value_is
-                (other_handle order _ _ (λ e. both_ways _ c.if-eq.false (c.eq.ensures ∙ sym (is_eq_index _) ∙ ap is_eq (c.compare.ensures ∙ e))) ∙ sym (ap (handle_at order _) c.in-Some.is));
+                (other_handle order _ _ (λ e. both_ways _ c.if-eq.false (c.eq.ensures ∙ sym (is_eq_index _) ∙ ap is_eq (c.cmp.ensures ∙ e))) ∙ sym (ap (handle_at order _) c.in-Some.is));
             same = t.same;
           };
       ready = a.ready;

@@ -14,7 +14,7 @@ loop-low-init g c = (omega arith, c.in_ok-high.ensures.within, λ h. record { ca
 pub loop-low-preserved : goal.loop-low-preserved
 loop-low-preserved g c =
     let φ = form g.K.Key.width in
-    let order = g.K.Key.order in
+    let order = g.K.Ord.cmp in
     let unpacked = g.K.Key.unpacked in
     let q = c.args.q.now in
     let mid = c.loop-low.low + (c.loop-low.high - c.loop-low.low) / 2 in (
@@ -28,7 +28,7 @@ loop-low-preserved g c =
                 let s = i.call p e in
                 let x = k.call (room_same _ _ _ _ s.0 p) in
                 let is = key_there φ unpacked _ mid _ _ _ _ s.0 x in
-                (x.same ∙ s.0, between_up order _ _ q _ _ mid _ refl (λ y. both_ways _ c.if-eq.false (c.eq.ensures ∙ sym (is_gt_index _) ∙ ap is_gt (c.compare.ensures ∙ ap (λ z. order z q) is ∙ y))) s.1);
+                (x.same ∙ s.0, between_up order _ _ q _ _ mid _ refl (λ y. both_ways _ c.if-eq.false (c.eq.ensures ∙ sym (is_gt_index _) ∙ ap is_gt (c.cmp.ensures ∙ ap (λ z. order z q) is ∙ y))) s.1);
             ready = k.ready;
           },
     )
@@ -73,7 +73,7 @@ returns g c = record {
         call = λ p.
             let r = a.call (countable g.K.Key.width _ _ p.few p.room) in
             let s = i.call (room_same _ _ _ _ r.same p.room) (r.value ∙ ap (λ z. z.words c.args.block 1) (sym r.same)) in
-            found g.K.Key.order g.met.K.Key.ordered (form g.K.Key.width) g.K.Key.unpacked _ _ _ _ _ _ r.same s.0 (between_met _ _ _ _ _ _ c.loop-low.invariant.0 c.loop-low-test.false s.1);
+            found g.K.Ord.cmp g.met.K.Key.ordered (form g.K.Key.width) g.K.Key.unpacked _ _ _ _ _ _ r.same s.0 (between_met _ _ _ _ _ _ c.loop-low.invariant.0 c.loop-low-test.false s.1);
         ready = i.ready;
       };
   refuses = λ h.
