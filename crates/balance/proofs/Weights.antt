@@ -78,12 +78,13 @@ cut_here φ b l c i all passed w m u t h p e a low r high =
     }
 
 -- the cut after the last entry
-pub cut_last : (φ : Form) (b l c i all passed : ℕ) (m u : Meaning) → i ≡ c → Totalled φ b l c all m → u ≡ m → passed ≡ sum (take i (weights φ l (m.words b))) → 2 * passed ≤ all → CutAt φ b l m (record { kept = i; passed = passed }) u
+pub cut_last : (φ : Form) (b l c i all passed : ℕ) (m u : Meaning) → i ≡ c → Totalled φ b l c all m → u ≡ m → passed ≡ sum (take i (weights φ l (m.words b))) → 2 * passed ≤ all → CutAt φ b l m (record { kept = c; passed = passed }) u
 cut_last φ b l c i all passed m u h p e a low =
     let ws = weights φ l (m.words b) in
+    let whole : passed ≡ sum (take c ws) = a ∙ ap (λ z. sum (take z ws)) h in
     record {
-      largest = ended ws i (omega (arith, weights_length φ l (m.words b), p.counted.count)) (omega (arith, p.all_is));
-      passed = a;
+      largest = ended ws c (omega (arith, weights_length φ l (m.words b), p.counted.count)) (omega (arith, p.all_is));
+      passed = whole;
       same = e;
     }
 

@@ -8,7 +8,7 @@ limit_of l = 64 * 16 ^ min l 4
 
 -- the root has a block number, its level is at most 4, and the keys are no more than its level carries
 pub record Bounded (h : Header) : Type 0 where
-  pub root_low : 1 ≤ h.root
-  pub root_high : h.root ≤ 1_048_575
-  pub low : h.level ≤ 4
-  pub few : h.keys ≤ limit_of h.level
+  pub root_low : 1 ≤ h.root.block
+  pub root_high : h.root.block ≤ 1_048_575
+  pub low : h.root.level ≤ 4
+  pub few : h.keys ≤ limit_of h.root.level

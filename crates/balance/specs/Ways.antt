@@ -17,4 +17,4 @@ pub record Led {K : Type 0} (φ : Form) (order : K → K → Ordering) (unpacked
   pub upto : ℕ
   pub found : Found φ order unpacked b q m upto n
   pub place : w.place ≡ upto - 1
-  pub child : w.child ≡ block_number (entry_at φ (m.words b) w.place).child
+  pub child : w.child.block ≡ block_number (entry_at φ (m.words b) w.place).child

@@ -1,5 +1,5 @@
 // Where a node is split.
-ghost use Rattle.std.specs.Prelude.{◌≡◌, ◌+◌, ◌*◌, ◌^◌, ◌<◌, ◌≤◌, Ok, Err};
+ghost use Rattle.std.specs.Prelude.{◌≡◌, ◌+◌, ◌*◌, ◌^◌, ◌<◌, ◌≤◌, IfOk};
 ghost use Rattle.store.specs.Calls.{Leaves};
 ghost use Rattle.copies.specs.Work.{Work};
 ghost use Rattle.nodes.specs.Places.{form};
@@ -7,6 +7,7 @@ ghost use Rattle.balance.specs.Cuts.{Weighable, Weighed, Counted, Summed, Totall
 
 use keys::key::Key;
 use nodes::layout::damaged;
+use nodes::node::Node;
 use nodes::read::{count, entry_key, entry_weight};
 use store::blocks::Store;
 use store::fault::Fault;
@@ -15,35 +16,30 @@ use store::fault::Fault;
 const HEAVIEST: u64 = 1_099_511_627_776;
 
 // What entry i adds to its node's weight: 1 in a leaf.
-pub fn weigh<K: Key, S: Store>(store: &mut S, block: u32, level: u32, i: u32) -> Result<u64, Fault>
+pub fn weigh<K: Key, S: Store>(store: &mut S, node: Node, i: u32) -> Result<u64, Fault>
     requires within { i < 80 }
-    ensures bound { elim result [ Ok w ↦ w ≤ 2 ^ 40 | Err f ↦ Unit {0} ] }
-    ensures weighs { Leaves S.meaning S.ready (Work (Weighable (form K.width) block level i) (Weighed (form K.width) block level i)) store.old result store.new }
+    ensures bound { IfOk result (λ w. w ≤ 2 ^ 40) }
+    ensures weighs { Leaves S.meaning S.ready (Work (Weighable (form K.width) node.block node.level i) (Weighed (form K.width) node.block node.level i)) store.old result store.new }
 {
-    if level == 0 {
+    if node.level == 0 {
         return Ok(1);
     }
-    let weight = entry_weight(store, block, i)?;
+    let weight = entry_weight(store, node.block, i)?;
     if weight > HEAVIEST {
-        return Err(damaged(block));
+        return Err(damaged(node.block));
     }
     Ok(weight)
 }
 
 // What a node of n entries weighs.
-pub fn whole_weight<K: Key, S: Store>(
-    store: &mut S,
-    block: u32,
-    level: u32,
-    n: u32,
-) -> Result<u64, Fault>
+pub fn whole_weight<K: Key, S: Store>(store: &mut S, node: Node, n: u32) -> Result<u64, Fault>
     requires within { n ≤ 80 }
-    ensures bound { elim result [ Ok w ↦ w ≤ 80 * 2 ^ 40 | Err f ↦ Unit {0} ] }
-    ensures sums { Leaves S.meaning S.ready (Work (Counted (form K.width) block level n) (Summed (form K.width) block level)) store.old result store.new }
+    ensures bound { IfOk result (λ w. w ≤ 80 * 2 ^ 40) }
+    ensures sums { Leaves S.meaning S.ready (Work (Counted (form K.width) node.block node.level n) (Summed (form K.width) node.block node.level)) store.old result store.new }
 {
     let mut all: u64 = 0;
     for i in 0..n {
-        let weight = weigh::<K, S>(store, block, level, i)?;
+        let weight = weigh::<K, S>(store, node, i)?;
         all += weight;
     }
     Ok(all)
@@ -59,27 +55,24 @@ pub struct Cut {
 // The most entries whose weight is at most that of the rest, of n entries that weigh `all`.
 pub fn split_point<K: Key, S: Store>(
     store: &mut S,
-    block: u32,
-    level: u32,
+    node: Node,
     n: u32,
     all: u64,
 ) -> Result<Cut, Fault>
     requires within { n ≤ 80 }
     requires bound { all ≤ 80 * 2 ^ 40 }
-    ensures bound { elim result [ Ok c ↦ (c.kept ≤ n) × (c.passed ≤ all) | Err f ↦ Unit {0} ] }
-    ensures cuts { Leaves S.meaning S.ready (Work (Totalled (form K.width) block level n all) (CutAt (form K.width) block level)) store.old result store.new }
+    ensures bound { IfOk result (λ c. (c.kept ≤ n) × (c.passed ≤ all)) }
+    ensures cuts { Leaves S.meaning S.ready (Work (Totalled (form K.width) node.block node.level n all) (CutAt (form K.width) node.block node.level)) store.old result store.new }
 {
-    let mut kept: u32 = 0;
     let mut passed: u64 = 0;
-    while kept < n {
-        let weight = weigh::<K, S>(store, block, level, kept)?;
+    for kept in 0..n {
+        let weight = weigh::<K, S>(store, node, kept)?;
         if 2 * (passed + weight) > all {
             return Ok(Cut { kept, passed });
         }
         passed += weight;
-        kept += 1;
     }
-    Ok(Cut { kept, passed })
+    Ok(Cut { kept: n, passed })
 }
 
 // The two nodes that a node is split into: entries that the left one keeps, what both weigh, and the
@@ -93,16 +86,16 @@ pub struct Halves<K> {
 }
 
 // How the node in a block is to be split.
-pub fn halve<K: Key, S: Store>(store: &mut S, block: u32, level: u32) -> Result<Halves<K>, Fault>
-    ensures { Leaves S.meaning S.ready (Work (Heavy (form K.width) block level) (Halved (form K.width) K.unpacked block level)) store.old result store.new }
+pub fn halve<K: Key, S: Store>(store: &mut S, node: Node) -> Result<Halves<K>, Fault>
+    ensures { Leaves S.meaning S.ready (Work (Heavy (form K.width) node.block node.level) (Halved (form K.width) K.unpacked node.block node.level)) store.old result store.new }
 {
-    let n = count(store, block)?;
-    let all = whole_weight::<K, S>(store, block, level, n)?;
-    let cut = split_point::<K, S>(store, block, level, n, all)?;
+    let n = count(store, node.block)?;
+    let all = whole_weight::<K, S>(store, node, n)?;
+    let cut = split_point::<K, S>(store, node, n, all)?;
     if cut.kept >= n {
-        return Err(damaged(block));
+        return Err(damaged(node.block));
     }
-    let key = entry_key(store, block, cut.kept)?;
+    let key = entry_key(store, node.block, cut.kept)?;
     Ok(Halves {
         kept: cut.kept,
         left: cut.passed,

@@ -4,6 +4,7 @@
 #![tactic(auto)]
 
 pub mod cut;
+pub mod down;
 pub mod limits;
 pub mod marks;
 pub mod update;

@@ -1,15 +1,23 @@
 // What an accepted update leaves, and how one is refused.
 ghost use Rattle.std.specs.Prelude.{◌≡◌};
+ghost use Rattle.balance.specs.Limits.{Bounded};
 ghost use Rattle.balance.specs.Updates.{own_refusal};
 
 use crate::marks::Marks;
 use nodes::header::Header;
 use store::fault::{Fault, Refusal};
 
+// Where a tree stands, within the bounds that every update keeps.
+#[derive(Clone, Copy)]
+pub struct Tree {
+    pub header: Header,
+    ghost bounded: { Bounded header },
+}
+
 // Where the tree now stands, and what was rebalanced.
 #[derive(Clone, Copy)]
 pub struct Updated {
-    pub header: Header,
+    pub tree: Tree,
     pub marks: Marks,
 }
 

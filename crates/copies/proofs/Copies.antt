@@ -1,58 +1,94 @@
 -- Words copied one by one.
-use Rattle.std.proofs.Common.{◌≡◌, ℕ, ◌+◌, ◌-◌, ◌<◌, ◌≤◌, ◌⊎◌, sym, ap, ◌∙◌, inl, inr, arith}
+use Rattle.std.proofs.Common.{◌≡◌, ℕ, ◌+◌, ◌-◌, ◌<◌, ◌≤◌, ◌⊎◌, sym, ap, ◌∙◌, subst, inl, inr, arith}
 use Rattle.std.proofs.lemmas.Bool.Decides.{nat_tests}
 use Rattle.store.specs.declared.fault.Fault.{Fault}
-use Rattle.store.specs.Meaning.{Meaning, count, with_at, with_block}
-use Rattle.store.specs.Calls.{GetDone, SetDone, WordFails, Lost}
-use Rattle.copies.specs.Blocks.{Copyable, edit, splice, pasted}
+use Rattle.store.specs.Meaning.{Meaning, with_at, with_block}
+use Rattle.store.specs.Calls.{GetDone, SetDone, Lost}
+use Rattle.copies.specs.declared.copy.Spot.{Spot}
+use Rattle.copies.specs.Blocks.{Copyable, Pasted, Word, edit, splice, pasted, spot}
 use Rattle.copies.proofs.Changes.{splice_none, splice_up, splice_down, block_self, word_over}
-use Rattle.copies.proofs.Exits.{Kin, lost_later, word_lost}
+use Rattle.copies.proofs.Exits.{Kin, lost_later}
+
+-- one word copied is one word changed
+paste_one : (α β : ℕ → ℕ) (q p : ℕ) → with_at β p (α q) ≡ pasted α q p 1 β
+unfolding pasted
+paste_one α β q p =
+    let f : ℕ → ℕ = λ x. α ((q + x) - p) in
+    let read : q ≡ (q + p) - p = omega arith in
+    (λ z. with_at (sym (splice_none β p f) z) p (α (read z))) ∙ splice_up β p p f (omega arith)
+
+-- the word that a copy reads, and the one that it writes
+pub from_word : (from to : Spot) (m : Meaning) → Copyable from to 1 m → Word from.block from.at m
+from_word from to m h = record { granted = h.from_granted; within = omega (arith, h.from_wide) }
+
+pub to_word : (from to : Spot) (m n : Meaning) → n ≡ m → Copyable from to 1 m → Word to.block to.at n
+to_word from to m n e h = record { granted = ap (λ z. z.granted to.block) e ∙ h.to_granted; within = omega (arith, h.to_wide, ap (λ z. z.shape.width) e) }
+
+-- a word read and written
+pub word_copied : (from to : Spot) (m u n : Meaning) (x : ℕ) → GetDone m from.block from.at x u → n ≡ edit u to.block (λ β. with_at β to.at x) → Pasted from to 1 m tt n
+unfolding edit
+word_copied from to m u n x get put =
+    put
+    ∙ ap (λ z. with_block z to.block (with_at (z.words to.block) to.at x)) get.same
+    ∙ ap (λ z. with_block m to.block (with_at (m.words to.block) to.at z)) get.value
+    ∙ ap (with_block m to.block) (paste_one (m.words from.block) (m.words to.block) from.at to.at)
 
 -- m with the places of block t from lo on, below hi, copied from block f, where a is copied to b
-abbrev pub run : Meaning → ℕ → ℕ → ℕ → ℕ → ℕ → ℕ → Meaning
-run m f a t b lo hi = with_block m t (splice (m.words t) lo hi (λ p. m.words f ((a + p) - b)))
+abbrev pub run : Meaning → Spot → Spot → ℕ → ℕ → Meaning
+run m from to lo hi = with_block m to.block (splice (m.words to.block) lo hi (λ p. m.words from.block ((from.at + p) - to.at)))
 
-module _ (m : Meaning) (f a t b : ℕ) where
-  pub run_none : (lo hi : ℕ) → lo ≡ hi → m ≡ run m f a t b lo hi
-  run_none lo hi e = sym (ap (with_block m t) (splice_none (m.words t) lo _) ∙ block_self m t) ∙ ap (run m f a t b lo) e
+module _ (m : Meaning) (from to : Spot) where
+  pub run_none : (lo hi : ℕ) → lo ≡ hi → m ≡ run m from to lo hi
+  run_none lo hi e = sym (ap (with_block m to.block) (splice_none (m.words to.block) lo _) ∙ block_self m to.block) ∙ ap (run m from to lo) e
 
-  pub run_all : (n : Meaning) (lo hi len : ℕ) → lo ≡ b → hi ≡ b + len → n ≡ run m f a t b lo hi → n ≡ edit m t (pasted (m.words f) a b len)
+  pub run_all : (n : Meaning) (lo hi len : ℕ) → lo ≡ to.at → hi ≡ to.at + len → n ≡ run m from to lo hi → Pasted from to len m tt n
   unfolding edit pasted
-  run_all n lo hi len e h inv = inv ∙ ap (λ z. run m f a t b z hi) e ∙ ap (run m f a t b b) h
+  run_all n lo hi len e h inv = inv ∙ ap (λ z. run m from to z hi) e ∙ ap (run m from to to.at) h
 
   -- a word that the copy has not come to yet
-  run_read : (lo hi q : ℕ) → (f ≡ t → (q < lo) ⊎ (hi ≤ q)) → (run m f a t b lo hi).words f q ≡ m.words f q
+  run_read : (lo hi q : ℕ) → (from.block ≡ to.block → (q < lo) ⊎ (hi ≤ q)) → (run m from to lo hi).words from.block q ≡ m.words from.block q
   unfolding with_at splice
   run_read lo hi q apart = grind (arith, nat_tests)
 
-  -- one word more: it is read at q and written at p
-  run_put : (lo hi p q : ℕ) (u v w : Meaning) (x : ℕ) → (a + p) - b ≡ q → (f ≡ t → (q < lo) ⊎ (hi ≤ q)) → u ≡ run m f a t b lo hi → GetDone u f q x v → SetDone v t p x w → w ≡ with_block m t (with_at (splice (m.words t) lo hi (λ p. m.words f ((a + p) - b))) p (m.words f ((a + p) - b)))
-  run_put lo hi p q u v w x place apart inv get put =
-      let value : x ≡ m.words f ((a + p) - b) = get.value ∙ ap (λ z. z.words f q) inv ∙ run_read lo hi q apart ∙ ap (m.words f) (sym place) in
-      word_over m v w t p (m.words f ((a + p) - b)) _ (get.same ∙ inv) (put.after ∙ ap (λ z. with_block v t (with_at (v.words t) p z)) value)
+  -- word i more
+  run_put : (lo hi i : ℕ) (u w : Meaning) → (from.block ≡ to.block → (from.at + i < lo) ⊎ (hi ≤ from.at + i)) → u ≡ run m from to lo hi → Pasted (spot from.block (from.at + i)) (spot to.block (to.at + i)) 1 u tt w → w ≡ with_block m to.block (with_at (splice (m.words to.block) lo hi (λ p. m.words from.block ((from.at + p) - to.at))) (to.at + i) (m.words from.block ((from.at + (to.at + i)) - to.at)))
+  unfolding edit
+  run_put lo hi i u w apart inv put =
+      let value : u.words from.block (from.at + i) ≡ m.words from.block ((from.at + (to.at + i)) - to.at) = ap (λ z. z.words from.block (from.at + i)) inv ∙ run_read lo hi (from.at + i) apart ∙ ap (m.words from.block) (omega arith) in
+      word_over m u w to.block (to.at + i) (m.words from.block ((from.at + (to.at + i)) - to.at)) _ inv (put ∙ ap (with_block u to.block) (sym (paste_one (u.words from.block) (u.words to.block) (from.at + i) (to.at + i)) ∙ ap (with_at (u.words to.block) (to.at + i)) value))
 
-  pub run_up : (u v w : Meaning) (i x : ℕ) → b ≤ a → u ≡ run m f a t b b (b + i) → GetDone u f (a + i) x v → SetDone v t (b + i) x w → w ≡ run m f a t b b (b + (i + 1))
-  run_up u v w i x up inv get put =
-      run_put b (b + i) (b + i) (a + i) u v w x (omega arith) (λ e. inr (omega arith)) inv get put
-      ∙ ap (with_block m t) (splice_up (m.words t) b (b + i) _ (omega arith))
-      ∙ ap (run m f a t b b) (omega arith)
-
-  pub run_down : (hi : ℕ) (u v w : Meaning) (j i x : ℕ) → j ≡ i + 1 → b + j ≤ hi → a ≤ b → u ≡ run m f a t b (b + j) hi → GetDone u f (a + i) x v → SetDone v t (b + i) x w → w ≡ run m f a t b (b + i) hi
-  run_down hi u v w j i x k l down inv get put =
-      run_put (b + i + 1) hi (b + i) (a + i) u v w x (omega arith) (λ e. inl (omega arith)) (inv ∙ ap (λ z. run m f a t b z hi) (omega arith)) get put
-      ∙ ap (with_block m t) (splice_down (m.words t) (b + i) hi _ (omega arith))
-
-  -- a read or a write refused on the way
-  on_way : (len lo hi : ℕ) (u : Meaning) → u ≡ run m f a t b lo hi → Kin m u
-  on_way len lo hi u e = record { shape = ap (λ z. z.shape) e; below = ap (λ z. z.below) e }
-
-  pub run_unread : (len lo hi i : ℕ) (u w : Meaning) (e : Fault) → Copyable f a t b len m → i < len → u ≡ run m f a t b lo hi → WordFails f (a + i) e.refusal e.block u w → e.depth ≡ u.shape.depth e.refusal (count u) → Lost m e w
-  run_unread len lo hi i u w e h l inv r d =
+  -- the copy of word i can be made
+  run_next : (len lo hi i : ℕ) (u : Meaning) → Copyable from to len m → i < len → u ≡ run m from to lo hi → Copyable (spot from.block (from.at + i)) (spot to.block (to.at + i)) 1 u
+  run_next len lo hi i u h l inv =
       let wide : u.shape.width ≡ m.shape.width = ap (λ z. z.shape.width) inv in
-      lost_later (on_way len lo hi u inv) (word_lost (record { granted = ap (λ z. z.granted f) inv ∙ h.from_granted; within = omega (arith, h.from_wide) }) r d)
+      record {
+        from_granted = ap (λ z. z.granted from.block) inv ∙ h.from_granted;
+        to_granted = ap (λ z. z.granted to.block) inv ∙ h.to_granted;
+        from_wide = omega (arith, h.from_wide);
+        to_wide = omega (arith, h.to_wide);
+      }
 
-  pub run_unwritten : (len lo hi i x : ℕ) (u v w : Meaning) (e : Fault) → Copyable f a t b len m → i < len → u ≡ run m f a t b lo hi → GetDone u f (a + i) x v → WordFails t (b + i) e.refusal e.block v w → e.depth ≡ v.shape.depth e.refusal (count v) → Lost m e w
-  run_unwritten len lo hi i x u v w e h l inv get r d =
-      let now = get.same ∙ inv in
-      let wide : v.shape.width ≡ m.shape.width = ap (λ z. z.shape.width) now in
-      lost_later (on_way len lo hi v now) (word_lost (record { granted = ap (λ z. z.granted t) now ∙ h.to_granted; within = omega (arith, h.to_wide) }) r d)
+  -- it was made
+  run_word : (len lo hi i : ℕ) (f' t' : Spot) (u w : Meaning) → f' ≡ spot from.block (from.at + i) → t' ≡ spot to.block (to.at + i) → (Copyable f' t' 1 u → Pasted f' t' 1 u tt w) → Copyable from to len m → i < len → u ≡ run m from to lo hi → Pasted (spot from.block (from.at + i)) (spot to.block (to.at + i)) 1 u tt w
+  run_word len lo hi i f' t' u w d e put h l inv =
+      let f = spot from.block (from.at + i) in
+      let t = spot to.block (to.at + i) in
+      subst (λ z. Copyable f z 1 u → Pasted f z 1 u tt w) e (subst (λ z. Copyable z t' 1 u → Pasted z t' 1 u tt w) d put) (run_next len lo hi i u h l inv)
+
+  pub run_up : (len i : ℕ) (f' t' : Spot) (u w : Meaning) → f' ≡ spot from.block (from.at + i) → t' ≡ spot to.block (to.at + i) → (Copyable f' t' 1 u → Pasted f' t' 1 u tt w) → Copyable from to len m → i < len → to.at ≤ from.at → u ≡ run m from to to.at (to.at + i) → w ≡ run m from to to.at (to.at + (i + 1))
+  run_up len i f' t' u w d e put h l up inv =
+      run_put to.at (to.at + i) i u w (λ e. inr (omega arith)) inv (run_word len _ _ i f' t' u w d e put h l inv)
+      ∙ ap (with_block m to.block) (splice_up (m.words to.block) to.at (to.at + i) _ (omega arith))
+      ∙ ap (run m from to to.at) (omega arith)
+
+  pub run_down : (len i j : ℕ) (f' t' : Spot) (u w : Meaning) → j ≡ i + 1 → f' ≡ spot from.block (from.at + i) → t' ≡ spot to.block (to.at + i) → (Copyable f' t' 1 u → Pasted f' t' 1 u tt w) → Copyable from to len m → j ≤ len → from.at ≤ to.at → u ≡ run m from to (to.at + j) (to.at + len) → w ≡ run m from to (to.at + i) (to.at + len)
+  run_down len i j f' t' u w k d e put h l down inv =
+      run_put (to.at + i + 1) (to.at + len) i u w (λ e. inl (omega arith)) (inv ∙ ap (λ z. run m from to z (to.at + len)) (omega arith)) (run_word len _ _ i f' t' u w d e put h (omega arith) inv)
+      ∙ ap (with_block m to.block) (splice_down (m.words to.block) (to.at + i) (to.at + len) _ (omega arith))
+
+  -- it was lost, and so the whole copy is
+  pub run_lost : (len lo hi i : ℕ) (f' t' : Spot) (u w : Meaning) (x : Fault) → f' ≡ spot from.block (from.at + i) → t' ≡ spot to.block (to.at + i) → (Copyable f' t' 1 u → Lost u x w) → Copyable from to len m → i < len → u ≡ run m from to lo hi → Lost m x w
+  run_lost len lo hi i f' t' u w x d e lost h l inv =
+      let f = spot from.block (from.at + i) in
+      lost_later (record { shape = ap (λ z. z.shape) inv; below = ap (λ z. z.below) inv })
+      (subst (λ z. Copyable f z 1 u → Lost u x w) e (subst (λ z. Copyable z t' 1 u → Lost u x w) d lost) (run_next len lo hi i u h l inv))

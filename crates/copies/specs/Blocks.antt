@@ -1,6 +1,11 @@
 -- What a block's words go through.
 use Rattle.std.specs.Prelude.{◌≡◌, ℕ, ◌+◌, ◌-◌, ◌<◌, ◌≤◌, true, cond, ◌&&◌, List, nat_le, nat_lt, slice_index}
 use Rattle.store.specs.Meaning.{Meaning, with_block}
+use Rattle.copies.specs.declared.copy.Spot.{Spot}
+
+-- the spot of a block and a place
+abbrev pub spot : ℕ → ℕ → Spot
+spot b place = record { block = b; at = place }
 
 -- block b is granted and has a word at this place
 pub record Word (b place : ℕ) (m : Meaning) : Type 0 where
@@ -8,11 +13,11 @@ pub record Word (b place : ℕ) (m : Meaning) : Type 0 where
   pub within : place < m.shape.width
 
 -- both blocks are granted and have the places of a copy
-pub record Copyable (from at to to_at len : ℕ) (m : Meaning) : Type 0 where
-  pub from_granted : m.granted from ≡ true
-  pub to_granted : m.granted to ≡ true
-  pub from_wide : at + len ≤ m.shape.width
-  pub to_wide : to_at + len ≤ m.shape.width
+pub record Copyable (from to : Spot) (len : ℕ) (m : Meaning) : Type 0 where
+  pub from_granted : m.granted from.block ≡ true
+  pub to_granted : m.granted to.block ≡ true
+  pub from_wide : from.at + len ≤ m.shape.width
+  pub to_wide : to.at + len ≤ m.shape.width
 
 -- m with the words of block b gone through F, and nothing else changed
 unfoldable pub edit : Meaning → ℕ → ((ℕ → ℕ) → ℕ → ℕ) → Meaning
@@ -39,6 +44,6 @@ pub record Read (b place : ℕ) (m : Meaning) (v : ℕ) (n : Meaning) : Type 0 w
 abbrev pub Edited : ℕ → ((ℕ → ℕ) → ℕ → ℕ) → Meaning → Unit {0} → Meaning → Type 0
 Edited b F m _ n = n ≡ edit m b F
 
--- so many words of block `from`, as they were, now stand in block `to`
-abbrev pub Pasted : ℕ → ℕ → ℕ → ℕ → ℕ → Meaning → Unit {0} → Meaning → Type 0
-Pasted from at to to_at len m _ n = n ≡ edit m to (pasted (m.words from) at to_at len)
+-- so many words from the spot `from` on, as they were, now stand from the spot `to` on
+abbrev pub Pasted : Spot → Spot → ℕ → Meaning → Unit {0} → Meaning → Type 0
+Pasted from to len m _ n = n ≡ edit m to.block (pasted (m.words from.block) from.at to.at len)

@@ -1,7 +1,7 @@
 -- Blocks with room for a node keep it, and have every place that a node has.
 use Rattle.std.proofs.Common.{◌≡◌, ℕ, ◌+◌, ◌*◌, ◌<◌, ◌≤◌, sym, ap, ◌∙◌, subst, mul-le-mul_left, arith}
 use Rattle.store.specs.Meaning.{Meaning}
-use Rattle.copies.specs.Blocks.{Copyable, Word, edit}
+use Rattle.copies.specs.Blocks.{Copyable, Word, edit, spot}
 use Rattle.copies.proofs.Edits.{edit_granted, edit_width}
 use Rattle.nodes.specs.Places.{Form, form, most, key_at, breadth}
 use Rattle.nodes.specs.Nodes.{Room, Rooms, Countable, Carried, carried}
@@ -28,7 +28,7 @@ key_within φ i j l m = let a = mul-le-mul_left {m = i + 1} {n = φ.places} φ.w
 pub keys_within : (φ : Form) (i n : ℕ) → i + n ≤ φ.places → key_at φ i + φ.words * n ≤ 2 + φ.places + φ.words * φ.places
 keys_within φ i n l = let a = mul-le-mul_left {m = i + n} {n = φ.places} φ.words l in omega arith
 
-pub rooms_copy : (φ : Form) (f t a b len : ℕ) (m : Meaning) → a + len ≤ breadth φ → b + len ≤ breadth φ → Rooms φ f t m → Copyable f a t b len m
+pub rooms_copy : (φ : Form) (f t a b len : ℕ) (m : Meaning) → a + len ≤ breadth φ → b + len ≤ breadth φ → Rooms φ f t m → Copyable (spot f a) (spot t b) len m
 rooms_copy φ f t a b len m k l h = record {
   from_granted = h.one.granted;
   to_granted = h.other.granted;

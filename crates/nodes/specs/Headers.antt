@@ -5,7 +5,7 @@ use Rattle.nodes.specs.declared.header.Header.{Header}
 
 -- words of a key, root block, root level and key count
 abbrev pub header_words : ℕ → Header → List ℕ
-header_words k h = k ∷ h.root ∷ h.level ∷ h.keys ∷ []
+header_words k h = k ∷ h.root.block ∷ h.root.level ∷ h.keys ∷ []
 
 -- block b is granted and wide enough for a header
 pub record Headroom (b : ℕ) (m : Meaning) : Type 0 where

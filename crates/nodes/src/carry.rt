@@ -6,7 +6,7 @@ ghost use Rattle.nodes.specs.Places.{form};
 ghost use Rattle.nodes.specs.Nodes.{Rooms, Carried};
 
 use crate::layout::{child_at, key_at, weight_at};
-use copies::copy::copy_run;
+use copies::copy::{Spot, copy_run};
 use keys::key::Key;
 use store::blocks::Store;
 use store::fault::Fault;
@@ -23,14 +23,22 @@ pub fn copy_entries<K: Key, S: Store>(
     requires within { (i + n ≤ 80) × (j + n ≤ 80) }
     ensures { Leaves S.meaning S.ready (Work (Rooms (form K.width) from to) (Carried (form K.width) from i to j n)) store.old result store.new }
 {
-    copy_run(store, from, weight_at(i), to, weight_at(j), n)?;
     copy_run(
         store,
-        from,
-        key_at::<K>(i),
-        to,
-        key_at::<K>(j),
+        Spot::new(from, weight_at(i)),
+        Spot::new(to, weight_at(j)),
+        n,
+    )?;
+    copy_run(
+        store,
+        Spot::new(from, key_at::<K>(i)),
+        Spot::new(to, key_at::<K>(j)),
         K::words() * n,
     )?;
-    copy_run(store, from, child_at::<K>(i), to, child_at::<K>(j), n)
+    copy_run(
+        store,
+        Spot::new(from, child_at::<K>(i)),
+        Spot::new(to, child_at::<K>(j)),
+        n,
+    )
 }

@@ -4,6 +4,7 @@ ghost use Rattle.copies.specs.Work.{Work};
 ghost use Rattle.copies.specs.Blocks.{Edited, filled};
 ghost use Rattle.nodes.specs.Headers.{Headroom, header_words};
 
+use crate::node::Node;
 use keys::key::Key;
 use store::blocks::Store;
 use store::fault::Fault;
@@ -11,8 +12,7 @@ use store::fault::Fault;
 // Where the tree stands, and how large it is.
 #[derive(Clone, Copy)]
 pub struct Header {
-    pub root: u32,
-    pub level: u32,
+    pub root: Node,
     pub keys: u64,
 }
 
@@ -21,7 +21,7 @@ pub fn put_header<K: Key, S: Store>(store: &mut S, block: u32, header: &Header) 
     ensures { Leaves S.meaning S.ready (Work (Headroom block) (Edited block (filled 0 (header_words K.width header.now) 4))) store.old result store.new }
 {
     store.set(block, 0, K::words() as u64)?;
-    store.set(block, 1, header.root as u64)?;
-    store.set(block, 2, header.level as u64)?;
+    store.set(block, 1, header.root.block as u64)?;
+    store.set(block, 2, header.root.level as u64)?;
     store.set(block, 3, header.keys)
 }

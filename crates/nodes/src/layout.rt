@@ -3,13 +3,11 @@ ghost use Rattle.std.specs.Prelude.{◌≡◌, ◌≤◌};
 ghost use Rattle.nodes.specs.Places.{form, weight_at, key_at, child_at, breadth, block_number, damage};
 
 use keys::key::Key;
+use store::blocks::LARGEST_BLOCK;
 use store::fault::{Fault, Refusal};
 
 // How many entries a node has places for.
 pub const PLACES: u32 = 80;
-
-// The largest block number that a store grants.
-pub const LARGEST_BLOCK: u32 = 1_048_575;
 
 // The place of a node's level, and of its count.
 pub const LEVEL_AT: u32 = 0;

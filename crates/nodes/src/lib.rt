@@ -10,5 +10,6 @@ pub mod edit;
 pub mod entry;
 pub mod header;
 pub mod layout;
+pub mod node;
 pub mod read;
 pub mod search;

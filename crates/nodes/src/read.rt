@@ -1,5 +1,5 @@
 // Parts of a node, read.
-ghost use Rattle.std.specs.Prelude.{◌<◌, ◌≤◌, Ok, Err};
+ghost use Rattle.std.specs.Prelude.{◌<◌, ◌≤◌, IfOk};
 ghost use Rattle.store.specs.Calls.{Leaves};
 ghost use Rattle.copies.specs.Work.{Work, Fails};
 ghost use Rattle.copies.specs.Blocks.{Word, Read};
@@ -13,7 +13,7 @@ use store::fault::Fault;
 
 // How many entries the node has; 'damaged' where the word says more than 80.
 pub fn count<S: Store>(store: &mut S, block: u32) -> Result<u32, Fault>
-    ensures within { elim result [ Ok n ↦ n ≤ 80 | Err f ↦ Unit {0} ] }
+    ensures within { IfOk result (λ n. n ≤ 80) }
     ensures counts { Leaves S.meaning S.ready (Work (Countable block) (Read block 1)) store.old result store.new }
     ensures refuses { Leaves S.meaning S.ready (Fails (Overfull block) (Damage block)) store.old result store.new }
 {

@@ -1,5 +1,5 @@
 // The search for a key in a node, by halving.
-ghost use Rattle.std.specs.Prelude.{◌≤◌, Ok, Err};
+ghost use Rattle.std.specs.Prelude.{◌≤◌, IfOk};
 ghost use Rattle.store.specs.Calls.{Leaves};
 ghost use Rattle.copies.specs.Work.{Work, Fails};
 ghost use Rattle.nodes.specs.Places.{form};
@@ -14,7 +14,7 @@ use store::fault::Fault;
 
 // How many of the node's keys are at most `q`.
 pub fn keys_up_to<K: Key, S: Store>(store: &mut S, block: u32, q: &K) -> Result<u32, Fault>
-    ensures within { elim result [ Ok n ↦ n ≤ 80 | Err f ↦ Unit {0} ] }
+    ensures within { IfOk result (λ n. n ≤ 80) }
     ensures finds { Leaves S.meaning S.ready (Work (Node (form K.width) block) (Found (form K.width) K.cmp K.unpacked block q.now)) store.old result store.new }
     ensures refuses { Leaves S.meaning S.ready (Fails (Overfull block) (Damage block)) store.old result store.new }
 {

@@ -53,7 +53,7 @@ returns-then-passed-weight g c = record {
 
 pub returns : goal.returns
 returns g c = record {
-  bound = (c.loop-kept.invariant.1, omega arith);
+  bound = (omega arith, omega arith);
   cuts = λ h.
       let i = c.loop-kept.invariant.2 h in
       record {

@@ -4,10 +4,10 @@ use Rattle.nodes.specs.Places.{form}
 use Rattle.balance.proofs.Weights.{weighed_leaf, weighed_inner, weight_there}
 use Rattle.balance.proofs.cut.weigh.Goals as goal
 
-pub returns-then-level-eq0 : goal.returns-then-level-eq0
-returns-then-level-eq0 g c = record {
+pub returns-then-node-eq0 : goal.returns-then-node-eq0
+returns-then-node-eq0 g c = record {
   bound = omega arith;
-  weighs = λ h. record { call = weighed_leaf (form g.K.Key.width) _ _ _ _ c.if-level-eq0.true; ready = h };
+  weighs = λ h. record { call = weighed_leaf (form g.K.Key.width) _ _ _ _ c.if-node-eq0.true; ready = h };
 }
 
 pub returns-in_err-weight : goal.returns-in_err-weight
@@ -26,7 +26,7 @@ returns-then-weight-gt-HEAVIEST g c = record {
       let e = c.in_ok-weight.ensures h in
       record {
         call = λ p.
-            let r = weighed_inner (form g.K.Key.width) _ _ _ _ _ _ c.if-level-eq0.false p (e.call (weight_there _ _ _ _ _ p)) in
+            let r = weighed_inner (form g.K.Key.width) _ _ _ _ _ _ c.if-node-eq0.false p (e.call (weight_there _ _ _ _ _ p)) in
             absurd (omega (arith, p.mild.each c.args.i, r.value, c.if-weight-gt-HEAVIEST.true));
         ready = e.ready;
       };
@@ -38,7 +38,7 @@ returns g c = record {
   weighs = λ h.
       let e = c.in_ok-weight.ensures h in
       record {
-        call = λ p. weighed_inner (form g.K.Key.width) _ _ _ _ _ _ c.if-level-eq0.false p (e.call (weight_there _ _ _ _ _ p));
+        call = λ p. weighed_inner (form g.K.Key.width) _ _ _ _ _ _ c.if-node-eq0.false p (e.call (weight_there _ _ _ _ _ p));
         ready = e.ready;
       };
 }

@@ -8,4 +8,4 @@ abbrev pub invariant-loop-i : goal.invariant-loop-i
 invariant-loop-i g l =
     let m = g.S.Store.meaning l.initial.store in
     let φ = form g.K.Key.width in
-    (l.all ≤ l.i * 2 ^ 40) × (g.S.Store.ready l.initial.store → Left (Counted φ l.block l.level l.n m → (g.S.Store.meaning l.store ≡ m) × (l.all ≡ sum (take l.i (weights φ l.level (m.words l.block))))) (g.S.Store.ready l.store))
+    (l.all ≤ l.i * 2 ^ 40) × (g.S.Store.ready l.initial.store → Left (Counted φ l.node.block l.node.level l.n m → (g.S.Store.meaning l.store ≡ m) × (l.all ≡ sum (take l.i (weights φ l.node.level (m.words l.node.block))))) (g.S.Store.ready l.store))

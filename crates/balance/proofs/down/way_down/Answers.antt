@@ -1,26 +1,26 @@
-use Rattle.std.proofs.Common.{ap, ◌∙◌, arith}
+use Rattle.std.proofs.Common.{refl, ap, ◌∙◌}
 use Rattle.copies.proofs.Exits.{raised, lost_later, kin_same}
 use Rattle.nodes.specs.Places.{form, block_number}
 use Rattle.nodes.specs.Nodes.{entry_at}
 use Rattle.nodes.proofs.Rooms.{room_same}
-use Rattle.balance.proofs.way.way_down.Goals as goal
+use Rattle.balance.proofs.down.way_down.Goals as goal
 
 pub returns-in_err-upto : goal.returns-in_err-upto
 returns-in_err-upto g c =
     rw (raised _ _ c.from_residual.ensures) (record {
-      within = tt;
+      below = tt;
       leads = λ h.
           let e = c.in_err-upto.ensures.finds h in
           record { call = λ p. e.call p.node; ready = e.ready };
     })
 
-pub returns-in_err-child : goal.returns-in_err-child
-returns-in_err-child g c =
-    rw (raised _ _ c.from_residual-in_err-child.ensures) (record {
-      within = tt;
+pub returns-in_err-block : goal.returns-in_err-block
+returns-in_err-block g c =
+    rw (raised _ _ c.from_residual-in_err-block.ensures) (record {
+      below = tt;
       leads = λ h.
           let a = c.in_ok-upto.ensures.finds h in
-          let e = c.in_err-child.ensures a.ready in
+          let e = c.in_err-block.ensures a.ready in
           record {
             call = λ p.
                 let f = a.call p.node in
@@ -31,10 +31,10 @@ returns-in_err-child g c =
 
 pub returns : goal.returns
 returns g c = record {
-  within = omega (arith, c.in_ok-upto.ensures.within);
+  below = (refl, c.saturating_sub.ensures);
   leads = λ h.
       let a = c.in_ok-upto.ensures.finds h in
-      let e = c.in_ok-child.ensures a.ready in
+      let e = c.in_ok-block.ensures a.ready in
       record {
         call = λ p.
             let f = a.call p.node in
@@ -43,7 +43,7 @@ returns g c = record {
               upto = c.in_ok-upto.upto;
               found = record { same = x.same ∙ f.same; sought = f.sought; split = f.split };
               place = c.saturating_sub-place.ensures;
-              child = x.value ∙ ap (λ m. block_number (entry_at (form g.K.Key.width) (m.words c.args.block) c.saturating_sub-place.result).child) f.same;
+              child = x.value ∙ ap (λ m. block_number (entry_at (form g.K.Key.width) (m.words c.args.node.block) c.saturating_sub-place.result).child) f.same;
             };
         ready = e.ready;
       };
