@@ -16,7 +16,7 @@ fn serve<S: Store>(index: &mut Index<Checkpoint, S>, call: Call) -> Answer {
 }
 
 // Makes each call on a new index in the store, answers it at its place, and yields the store. Where no index
-// can be made, each call is answered with that refusal.
+// can be made, each call is answered with that refusal. The caller lends room for the answers, so this can't fail.
 pub fn run<S: Store>(store: S, calls: &[Call], answers: &mut [Answer]) -> S {
     match Index::create(store) {
         Err(Refused { fault, store }) => {
