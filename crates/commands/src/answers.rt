@@ -1,5 +1,5 @@
 // The whole of the command program: input to output.
-use crate::call::{Answer, Call};
+use crate::call::{Answer, Call, Reply};
 use crate::parse::parse;
 use crate::run::run;
 use std::alloc::{AllocError, Global};
@@ -16,18 +16,12 @@ const WIDTH: usize = 242;
 
 // The calls among the lines.
 fn calls_of(heap: Global, lines: &[Option<Call>]) -> Result<Vec<Call>, AllocError> {
-    let mut calls = Vec::new(heap);
-    for line in lines {
-        if let Some(call) = line {
-            calls.push(*call)?;
-        }
-    }
-    Ok(calls)
+    lines.iter().flatten().copied().collect(heap)
 }
 
 // Makes the calls on a fresh index in 32 table blocks.
 fn answers_of(heap: Global, calls: &[Call]) -> Result<Vec<Answer>, AllocError> {
-    let mut answers = vec![in heap; Answer::Handle(None); calls.len()]?;
+    let mut answers = vec![in heap; Ok(Reply::Handle(None)); calls.len()]?;
     let mut words = vec![in heap; 0u64; BLOCKS * WIDTH]?;
     let mut marks = vec![in heap; 0u8; BLOCKS]?;
     if let Ok(store) = TableStore::fresh(&mut words, &mut marks, WIDTH as u32) {
@@ -43,17 +37,13 @@ fn write_all(
     answers: &[Answer],
 ) -> Result<String, AllocError> {
     let mut text = String::new(heap);
-    let mut next = 0;
+    let mut answers = answers.iter();
     for line in lines {
-        if line.is_some() && next < answers.len() {
-            let answer = answers[next];
-            let shown = answer.to_string(heap)?;
-            text.push_str(&shown)?;
-            next += 1;
-        } else {
-            text.push_str("bad")?;
+        match line.and_then(|_| answers.next()) {
+            Some(Ok(reply)) => writeln!(text, "{reply}")?,
+            Some(Err(fault)) => writeln!(text, "no {}", fault.refusal.number())?,
+            None => text.push_str("bad\n")?,
         }
-        text.push('\n')?;
     }
     Ok(text)
 }

@@ -13,10 +13,12 @@ pub enum Call {
     Resume(u32),
 }
 
+// What the index tells of a call that it accepts.
 #[derive(Clone, Copy)]
-pub enum Answer {
+pub enum Reply {
     Updated(Marks),
     Handle(Option<u64>),
     Nearest(Option<Pair<Checkpoint>>),
-    Refused(Fault),
 }
+
+pub type Answer = Result<Reply, Fault>;

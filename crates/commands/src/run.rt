@@ -1,47 +1,26 @@
 // A list of calls made on a new index, one after the other.
-use crate::call::{Answer, Call};
-use balance::marks::Marks;
+use crate::call::{Answer, Call, Reply};
 use index::index::{Created, Index, Refused};
 use keys::checkpoint::Checkpoint;
 use store::blocks::Store;
-use store::fault::Fault;
-
-// An update's answer.
-fn updated(res: Result<Marks, Fault>) -> Answer {
-    match res {
-        Ok(marks) => Answer::Updated(marks),
-        Err(fault) => Answer::Refused(fault),
-    }
-}
 
 // One call on the index.
 fn serve<S: Store>(index: &mut Index<Checkpoint, S>, call: Call) -> Answer {
     match call {
-        Call::Add(key, handle) => updated(index.insert(&key, handle)),
-        Call::Del(key) => updated(index.delete(&key)),
-        Call::Find(key) => match index.find(&key) {
-            Ok(handle) => Answer::Handle(handle),
-            Err(fault) => Answer::Refused(fault),
-        },
-        Call::Floor(key) => match index.floor(&key) {
-            Ok(pair) => Answer::Nearest(pair),
-            Err(fault) => Answer::Refused(fault),
-        },
-        Call::Resume(case) => match index.resume(case) {
-            Ok(pair) => Answer::Nearest(pair),
-            Err(fault) => Answer::Refused(fault),
-        },
+        Call::Add(key, handle) => index.insert(&key, handle).map(Reply::Updated),
+        Call::Del(key) => index.delete(&key).map(Reply::Updated),
+        Call::Find(key) => index.find(&key).map(Reply::Handle),
+        Call::Floor(key) => index.floor(&key).map(Reply::Nearest),
+        Call::Resume(case) => index.resume(case).map(Reply::Nearest),
     }
 }
 
 // Makes each call on a new index in the store, answers it at its place, and yields the store. Where no index
-// can be made, each call is answered with that refusal.
+// can be made, each call is answered with that refusal. The caller lends room for the answers, so this can't fail.
 pub fn run<S: Store>(store: S, calls: &[Call], answers: &mut [Answer]) -> S {
     match Index::create(store) {
         Err(Refused { fault, store }) => {
-            for answer in answers.iter_mut() {
-                *answer = Answer::Refused(fault);
-            }
+            answers.fill(Err(fault));
             store
         }
         Ok(
@@ -50,8 +29,8 @@ pub fn run<S: Store>(store: S, calls: &[Call], answers: &mut [Answer]) -> S {
                 header: _,
             },
         ) => {
-            for i in 0..calls.len().min(answers.len()) {
-                answers[i] = serve(&mut index, calls[i]);
+            for (answer, call) in answers.iter_mut().zip(calls) {
+                *answer = serve(&mut index, *call);
             }
             index.close()
         }

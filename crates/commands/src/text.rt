@@ -1,5 +1,5 @@
-// Answers as lines of text.
-use crate::call::Answer;
+// Replies as text.
+use crate::call::Reply;
 use balance::marks::Marks;
 use keys::checkpoint::Checkpoint;
 use plain::pair::Pair;
@@ -34,22 +34,13 @@ fn show_pair<W: fmt::Write>(pair: &Pair<Checkpoint>, f: &mut fmt::Formatter<W>) 
     write!(f, "{case} {step} {handle}")
 }
 
-impl fmt::Display for Answer {
+impl fmt::Display for Reply {
     fn fmt<W: fmt::Write>(&self, f: &mut fmt::Formatter<W>) -> fmt::Result {
-        match *self {
-            Answer::Updated(marks) => show_marks(&marks, f),
-            Answer::Handle(found) => match found {
-                Some(handle) => write!(f, "{handle}"),
-                None => write!(f, "none"),
-            },
-            Answer::Nearest(found) => match found {
-                Some(pair) => show_pair(&pair, f),
-                None => write!(f, "none"),
-            },
-            Answer::Refused(fault) => {
-                let number = fault.refusal.number();
-                write!(f, "no {number}")
-            }
+        match self {
+            Reply::Updated(marks) => show_marks(marks, f),
+            Reply::Handle(Some(handle)) => write!(f, "{handle}"),
+            Reply::Nearest(Some(pair)) => show_pair(pair, f),
+            Reply::Handle(None) | Reply::Nearest(None) => f.write_str("none"),
         }
     }
 }

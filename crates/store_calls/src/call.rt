@@ -1,6 +1,8 @@
-// Store calls as text, and their answers.
+// Store calls, and what a store answers to them as text.
 use std::alloc::{AllocError, Global};
-use store::blocks::{Stock, Store};
+use std::fmt;
+use std::fmt::Write;
+use store::blocks::{LARGEST_BLOCK, Stock, Store};
 use store::fault::Fault;
 
 // A call. A block is named by when it was taken: 1 is the first take that was granted.
@@ -13,115 +15,120 @@ pub enum Call {
     Stock,
 }
 
-// No store here grants this number.
-const NEVER: u32 = 1_048_576;
-
-// The block of the take with this number.
-fn taken(blocks: &Vec<u32>, number: usize) -> u32 {
-    if number == 0 {
-        return NEVER;
-    }
-    blocks.get(number - 1).copied().unwrap_or(NEVER)
+// What a store tells of a call that it accepts.
+#[derive(Clone, Copy)]
+enum Reply {
+    Taken(u32),
+    Done,
+    Word(u64),
+    Stock(Stock),
 }
 
-// An earlier take of a block that is granted anew no longer names it.
-fn forget(blocks: &mut Vec<u32>, block: u32) {
-    for earlier in blocks.iter_mut() {
-        if *earlier == block {
-            *earlier = NEVER;
+impl fmt::Display for Reply {
+    fn fmt<W: fmt::Write>(&self, f: &mut fmt::Formatter<W>) -> fmt::Result {
+        match *self {
+            Reply::Taken(_) | Reply::Done => f.write_str("ok"),
+            Reply::Word(word) => write!(f, "{word}"),
+            Reply::Stock(stock) => write!(
+                f,
+                "{} {} {}",
+                stock.width, stock.granted, stock.capacity
+            ),
         }
     }
 }
 
-// Why a call was refused.
-fn refused(heap: Global, fault: Fault) -> Result<String, AllocError> {
-    let number = fault.refusal.number();
-    let depth = fault.depth;
-    format!(in heap; "no {number} at {depth}")
+// A call has to give a number even where it names no block, and no store grants this one.
+const NEVER: u32 = LARGEST_BLOCK + 1;
+
+// The same calls made on one store after the other: the blocks of the takes so far, and a line for each answer. A
+// block that is granted anew is named by its last take alone.
+#[derive(Drop)]
+pub(crate) struct Session<'a> {
+    calls: &'a [Call],
+    taken: Vec<Option<u32>>,
+    text: String,
 }
 
-// The answer of a call that tells nothing but whether it was accepted.
-fn accepted(heap: Global, answer: Result<(), Fault>) -> Result<String, AllocError> {
-    match answer {
-        Ok(()) => String::from_str(heap, "ok"),
-        Err(fault) => refused(heap, fault),
-    }
-}
-
-// A take, kept in mind where it was granted.
-fn take<S: Store>(
-    heap: Global,
-    store: &mut S,
-    blocks: &mut Vec<u32>,
-) -> Result<String, AllocError> {
-    match store.take() {
-        Ok(block) => {
-            forget(blocks, block);
-            blocks.push(block)?;
-            String::from_str(heap, "ok")
+impl<'a> Session<'a> {
+    pub(crate) fn new(heap: Global, calls: &'a [Call]) -> Session<'a> {
+        Session {
+            calls,
+            taken: Vec::new(heap),
+            text: String::new(heap),
         }
-        Err(fault) => refused(heap, fault),
     }
-}
 
-// The stock, width first.
-fn stock<S: Store>(heap: Global, store: &mut S) -> Result<String, AllocError> {
-    match store.stock() {
-        Ok(
-            Stock {
-                width,
-                granted,
-                capacity,
-            },
-        ) => format!(in heap; "{width} {granted} {capacity}"),
-        Err(fault) => refused(heap, fault),
+    // The lines so far.
+    pub(crate) fn end(self) -> String {
+        self.text
     }
-}
 
-// The word at a place.
-fn get<S: Store>(
-    heap: Global,
-    store: &mut S,
-    block: u32,
-    place: u32,
-) -> Result<String, AllocError> {
-    match store.get(block, place) {
-        Ok(word) => format!(in heap; "{word}"),
-        Err(fault) => refused(heap, fault),
+    // The block of the take with this number.
+    fn block(&self, number: usize) -> u32 {
+        number
+            .checked_sub(1)
+            .and_then(|i| self.taken.get(i).copied())
+            .flatten()
+            .unwrap_or(NEVER)
     }
-}
 
-// One call, and its answer as text.
-fn answer<S: Store>(
-    heap: Global,
-    store: &mut S,
-    blocks: &mut Vec<u32>,
-    call: Call,
-) -> Result<String, AllocError> {
-    match call {
-        Call::Take => take(heap, store, blocks),
-        Call::Give(number) => accepted(heap, store.give_back(taken(blocks, number))),
-        Call::Get(number, place) => get(heap, store, taken(blocks, number), place),
-        Call::Set(number, place, word) => accepted(
-            heap,
-            store.set(taken(blocks, number), place, word),
-        ),
-        Call::Stock => stock(heap, store),
+    // Keeps in mind a take that was granted.
+    fn note(&mut self, block: u32) -> Result<(), AllocError> {
+        for earlier in self.taken.iter_mut() {
+            if *earlier == Some(block) {
+                *earlier = None;
+            }
+        }
+        self.taken.push(Some(block))?;
+        Ok(())
     }
-}
 
-// A line for each call.
-pub fn run_calls<S: Store>(
-    heap: Global,
-    store: &mut S,
-    blocks: &mut Vec<u32>,
-    calls: &[Call],
-) -> Result<String, AllocError> {
-    let mut text = String::new(heap);
-    for call in calls {
-        let line = answer(heap, store, blocks, *call)?;
-        text.push_str(&line)?;
-        text.push('\n')?;
+    // One call on a store.
+    fn make<S: Store>(&self, store: &mut S, call: Call) -> Result<Reply, Fault> {
+        match call {
+            Call::Take => store.take().map(Reply::Taken),
+            Call::Give(number) => store.give_back(self.block(number)).map(|()| Reply::Done),
+            Call::Get(number, place) => store.get(self.block(number), place).map(Reply::Word),
+            Call::Set(number, place, word) => store
+                .set(self.block(number), place, word)
+                .map(|()| Reply::Done),
+            Call::Stock => store.stock().map(Reply::Stock),
+        }
     }
-    Ok(text)
+
+    // One call on a store, and the line of its answer.
+    fn answer<S: Store>(&mut self, store: &mut S, call: Call) -> Result<(), AllocError> {
+        let reply = self.make(store, call);
+        if let Ok(Reply::Taken(block)) = reply {
+            self.note(block)?;
+        }
+        match reply {
+            Ok(reply) => writeln!(self.text, "{reply}"),
+            Err(fault) => writeln!(
+                self.text,
+                "no {} at {}",
+                fault.refusal.number(),
+                fault.depth
+            ),
+        }
+    }
+
+    // Makes every call on a store.
+    pub(crate) fn make_all<S: Store>(&mut self, store: &mut S) -> Result<(), AllocError> {
+        for call in self.calls {
+            self.answer(store, *call)?;
+        }
+        Ok(())
+    }
+
+    // Makes only those calls on a store that read a word.
+    pub(crate) fn make_reads<S: Store>(&mut self, store: &mut S) -> Result<(), AllocError> {
+        for call in self.calls {
+            if let Call::Get(..) = call {
+                self.answer(store, *call)?;
+            }
+        }
+        Ok(())
+    }
 }

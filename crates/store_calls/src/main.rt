@@ -5,16 +5,15 @@ mod call;
 mod parse;
 mod piles;
 
+use cache::cached::Cache;
 use cache::line::LineTable;
 use call::Call;
 use paged::paged::PagedStore;
 use parse::parse;
-use piles::{
-    Ran, on_cache, on_cache_over_quota, on_quota, on_quota_over_cache, on_store, reads_of,
-};
+use piles::{Pile, answers};
+use quota::quota::Quota;
 use std::alloc::{AllocError, Global};
-use std::io::{Read, Write};
-use store::blocks::Store;
+use std::io::Read;
 use stores::table::TableStore;
 
 const BLOCKS: usize = 40;
@@ -24,9 +23,16 @@ const WIDTH: usize = 65;
 // Two frames to a block.
 const FRAMES: usize = 80;
 
-// What a pile is over its store.
+// The store at the bottom of a pile.
 #[derive(Clone, Copy)]
-enum Pile {
+enum Bottom {
+    Table,
+    Paged,
+}
+
+// What a pile has over its store, the top first. Each pile is a type of its own, so the table below can only name it.
+#[derive(Clone, Copy)]
+enum Layers {
     Bare,
     Quota(u64),
     Cache(u32),
@@ -34,135 +40,90 @@ enum Pile {
     CacheOverQuota(u32, u64),
 }
 
-// The calls on a pile over a store; no table of lines, no answers.
-fn on_pile<S: Store>(heap: Global, store: S, pile: Pile, calls: &[Call], reads: &[Call]) -> Ran<S> {
-    match pile {
-        Pile::Bare => on_store(heap, store, calls),
-        Pile::Quota(limit) => on_quota(heap, store, limit, calls),
-        Pile::Cache(lines) => match LineTable::new(heap, lines) {
-            Ok(table) => on_cache(heap, store, table, calls, reads),
-            Err(_) => unmade(heap, store),
+// Every pile, with its name.
+const PILES: [(&str, Layers, Bottom); 10] = [
+    ("table", Layers::Bare, Bottom::Table),
+    ("paged", Layers::Bare, Bottom::Paged),
+    ("quota 0 over table", Layers::Quota(0), Bottom::Table),
+    ("quota 3 over table", Layers::Quota(3), Bottom::Table),
+    ("cache 0 over table", Layers::Cache(0), Bottom::Table),
+    ("cache 17 over table", Layers::Cache(17), Bottom::Table),
+    ("cache 1 over table", Layers::Cache(1), Bottom::Table),
+    ("cache 16 over table", Layers::Cache(16), Bottom::Table),
+    (
+        "quota 30 over cache 4 over table",
+        Layers::QuotaOverCache(30, 4),
+        Bottom::Table,
+    ),
+    (
+        "cache 2 over quota 30 over paged",
+        Layers::CacheOverQuota(2, 30),
+        Bottom::Paged,
+    ),
+];
+
+// What the layers answer over a store.
+fn over<S: Pile + Drop>(
+    heap: Global,
+    layers: Layers,
+    store: S,
+    calls: &[Call],
+) -> Result<String, AllocError> {
+    match layers {
+        Layers::Bare => answers(heap, store, calls),
+        Layers::Quota(limit) => answers(heap, Quota::new(store, limit), calls),
+        Layers::Cache(lines) => match LineTable::new(heap, lines) {
+            Ok(table) => answers(heap, Cache::new(store, table), calls),
+            Err(_) => no_cache(heap),
         },
-        Pile::QuotaOverCache(limit, lines) => match LineTable::new(heap, lines) {
-            Ok(table) => on_quota_over_cache(heap, store, limit, table, calls, reads),
-            Err(_) => unmade(heap, store),
+        Layers::QuotaOverCache(limit, lines) => match LineTable::new(heap, lines) {
+            Ok(table) => answers(heap, Quota::new(Cache::new(store, table), limit), calls),
+            Err(_) => no_cache(heap),
         },
-        Pile::CacheOverQuota(lines, limit) => match LineTable::new(heap, lines) {
-            Ok(table) => on_cache_over_quota(heap, store, limit, table, calls, reads),
-            Err(_) => unmade(heap, store),
+        Layers::CacheOverQuota(lines, limit) => match LineTable::new(heap, lines) {
+            Ok(table) => answers(heap, Cache::new(Quota::new(store, limit), table), calls),
+            Err(_) => no_cache(heap),
         },
     }
 }
 
 // No cache of so many lines can be made.
-fn unmade<S: Store>(heap: Global, store: S) -> Ran<S> {
-    Ran {
-        text: String::from_str(heap, "no such cache\n"),
-        store,
-    }
+fn no_cache(heap: Global) -> Result<String, AllocError> {
+    String::from_str(heap, "no such cache\n")
 }
 
-// The calls on a pile over a fresh table store.
-fn over_table(
-    heap: Global,
-    pile: Pile,
-    calls: &[Call],
-    reads: &[Call],
-) -> Result<String, AllocError> {
+// What the layers answer over a fresh table store.
+fn over_table(heap: Global, layers: Layers, calls: &[Call]) -> Result<String, AllocError> {
     let mut words = vec![in heap; 7u64; BLOCKS * WIDTH]?;
     let mut marks = vec![in heap; 1u8; BLOCKS + 3]?;
-    let Ok(store) = TableStore::fresh(&mut words, &mut marks, WIDTH as u32) else {
-        return String::from_str(heap, "misfit\n");
-    };
-    let Ran { text, store: _ } = on_pile(heap, store, pile, calls, reads);
-    text
-}
-
-// A map that names the frames of all blocks, the last first.
-fn scattered(heap: Global) -> Result<Vec<u32>, AllocError> {
-    let mut map = Vec::new(heap);
-    for i in 0..FRAMES as u32 {
-        map.push(FRAMES as u32 - 1 - i)?;
+    match TableStore::fresh(&mut words, &mut marks, WIDTH as u32) {
+        Ok(store) => over(heap, layers, store, calls),
+        Err(_) => String::from_str(heap, "misfit\n"),
     }
-    Ok(map)
 }
 
-// The calls on a pile over a fresh paged store.
-fn over_pages(
-    heap: Global,
-    pile: Pile,
-    calls: &[Call],
-    reads: &[Call],
-) -> Result<String, AllocError> {
+// What the layers answer over a fresh paged store. Its map names the frames of all blocks, the last first.
+fn over_pages(heap: Global, layers: Layers, calls: &[Call]) -> Result<String, AllocError> {
     let mut words = vec![in heap; 7u64; FRAMES * 64]?;
     let mut marks = vec![in heap; 1u8; BLOCKS]?;
-    let map = scattered(heap)?;
-    let Ok(store) = PagedStore::fresh(heap, &mut words, &mut marks, &map, WIDTH as u32) else {
-        return String::from_str(heap, "misfit\n");
-    };
-    let Ran { text, store: _ } = on_pile(heap, store, pile, calls, reads);
-    text
-}
-
-// The answers of each pile below its name.
-fn all(heap: Global, rt: &HostRuntime, calls: &[Call]) -> anyhow::Result<()> {
-    let reads = reads_of(heap, calls)?;
-    show(rt, "table", over_table(heap, Pile::Bare, calls, &reads)?)?;
-    show(rt, "paged", over_pages(heap, Pile::Bare, calls, &reads)?)?;
-    show(
-        rt,
-        "quota 0 over table",
-        over_table(heap, Pile::Quota(0), calls, &reads)?,
-    )?;
-    show(
-        rt,
-        "quota 3 over table",
-        over_table(heap, Pile::Quota(3), calls, &reads)?,
-    )?;
-    show(
-        rt,
-        "cache 0 over table",
-        over_table(heap, Pile::Cache(0), calls, &reads)?,
-    )?;
-    show(
-        rt,
-        "cache 17 over table",
-        over_table(heap, Pile::Cache(17), calls, &reads)?,
-    )?;
-    show(
-        rt,
-        "cache 1 over table",
-        over_table(heap, Pile::Cache(1), calls, &reads)?,
-    )?;
-    show(
-        rt,
-        "cache 16 over table",
-        over_table(heap, Pile::Cache(16), calls, &reads)?,
-    )?;
-    show(
-        rt,
-        "quota 30 over cache 4 over table",
-        over_table(heap, Pile::QuotaOverCache(30, 4), calls, &reads)?,
-    )?;
-    show(
-        rt,
-        "cache 2 over quota 30 over paged",
-        over_pages(heap, Pile::CacheOverQuota(2, 30), calls, &reads)?,
-    )
-}
-
-// A pile's name and its answers.
-fn show(rt: &HostRuntime, name: &str, text: String) -> anyhow::Result<()> {
-    println!(rt; "{name}")?;
-    rt.stdout().write_all(text.as_bytes())?;
-    Ok(())
+    let map: Vec<u32> = (0..FRAMES as u32).rev().collect(heap)?;
+    match PagedStore::fresh(heap, &mut words, &mut marks, &map, WIDTH as u32) {
+        Ok(store) => over(heap, layers, store, calls),
+        Err(_) => String::from_str(heap, "misfit\n"),
+    }
 }
 
 fn main(rt: HostRuntime) -> anyhow::Result<()> {
     let heap = rt.alloc();
     let mut input = Vec::new(heap);
     rt.stdin().take(1_000_000).read_to_end(&mut input)?;
-    let text = std::str::from_utf8(&input)?;
-    let calls = parse(heap, text)?;
-    all(heap, &rt, &calls)
+    let calls = parse(heap, std::str::from_utf8(&input)?)?;
+    for (name, layers, bottom) in PILES {
+        let text = match bottom {
+            Bottom::Table => over_table(heap, layers, &calls)?,
+            Bottom::Paged => over_pages(heap, layers, &calls)?,
+        };
+        print!(rt; "{name}\n{text}")?;
+    }
+    Ok(())
 }

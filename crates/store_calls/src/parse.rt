@@ -4,15 +4,12 @@ use std::alloc::{AllocError, Global};
 
 // A number among the words, 0 where there is none.
 fn number(word: Option<&str>) -> u64 {
-    match word {
-        Some(text) => text.parse::<u64>().unwrap_or(0),
-        None => 0,
-    }
+    word.and_then(|text| text.parse().ok()).unwrap_or(0)
 }
 
 // A number that is at most as large as a place can be.
 fn place(word: Option<&str>) -> u32 {
-    number(word).min(4_294_967_295) as u32
+    u32::try_from(number(word)).unwrap_or(u32::MAX)
 }
 
 // The call of a line.
@@ -21,24 +18,17 @@ fn parse_line(line: &str) -> Call {
     match words.next() {
         Some("take") => Call::Take,
         Some("give") => Call::Give(number(words.next()) as usize),
-        Some("get") => {
-            let block = number(words.next()) as usize;
-            Call::Get(block, place(words.next()))
-        }
-        Some("set") => {
-            let block = number(words.next()) as usize;
-            let at = place(words.next());
-            Call::Set(block, at, number(words.next()))
-        }
+        Some("get") => Call::Get(number(words.next()) as usize, place(words.next())),
+        Some("set") => Call::Set(
+            number(words.next()) as usize,
+            place(words.next()),
+            number(words.next()),
+        ),
         _ => Call::Stock,
     }
 }
 
 // The calls of all lines.
 pub fn parse(heap: Global, text: &str) -> Result<Vec<Call>, AllocError> {
-    let mut calls = Vec::new(heap);
-    for line in text.lines() {
-        calls.push(parse_line(line))?;
-    }
-    Ok(calls)
+    text.lines().map(parse_line).collect(heap)
 }

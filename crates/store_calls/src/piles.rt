@@ -1,112 +1,56 @@
-// The same calls on every store and on piles of layers.
-use crate::call::{Call, run_calls};
+// The same calls on a store and on any pile of layers over it.
+use crate::call::{Call, Session};
 use cache::cached::{Cache, Closed};
-use cache::line::LineTable;
+use paged::paged::PagedStore;
 use quota::quota::Quota;
 use std::alloc::{AllocError, Global};
 use store::blocks::Store;
+use stores::table::TableStore;
 
-// What a store answered, and the store.
-pub struct Ran<S> {
-    pub text: Result<String, AllocError>,
-    pub store: S,
+// Layers over a store. They are taken off from the top, and below each cache the reads are made once more.
+pub(crate) trait Pile: Store {
+    fn take_apart(self, session: &mut Session) -> Result<(), AllocError>;
 }
 
-// The calls on a store.
-pub fn on_store<S: Store>(heap: Global, mut store: S, calls: &[Call]) -> Ran<S> {
-    let mut blocks = Vec::new(heap);
-    let text = run_calls(heap, &mut store, &mut blocks, calls);
-    Ran { text, store }
-}
-
-// The calls through a quota.
-pub fn on_quota<S: Store>(heap: Global, store: S, limit: u64, calls: &[Call]) -> Ran<S> {
-    let Ran { text, store } = on_store(heap, Quota::new(store, limit), calls);
-    Ran {
-        text,
-        store: store.end(),
+impl Pile for TableStore<'_> {
+    fn take_apart(self, _session: &mut Session) -> Result<(), AllocError> {
+        Ok(())
     }
 }
 
-// The reads among the calls.
-pub fn reads_of(heap: Global, calls: &[Call]) -> Result<Vec<Call>, AllocError> {
-    let mut reads = Vec::new(heap);
-    for call in calls {
-        if let Call::Get(_, _) = *call {
-            reads.push(*call)?;
-        }
+impl Pile for PagedStore<'_> {
+    fn take_apart(self, _session: &mut Session) -> Result<(), AllocError> {
+        Ok(())
     }
-    Ok(reads)
 }
 
-// The calls through a cache, and then the reads once more on the store below it.
-pub fn on_cache<S: Store>(
+impl<S: Pile> Pile for Quota<S> {
+    fn take_apart(self, session: &mut Session) -> Result<(), AllocError> {
+        self.end().take_apart(session)
+    }
+}
+
+impl<S: Pile> Pile for Cache<S> {
+    fn take_apart(self, session: &mut Session) -> Result<(), AllocError> {
+        let Closed {
+            mut store,
+            fault: _,
+        } = self.close();
+        let read = session.make_reads(&mut store);
+        store.take_apart(session)?;
+        read
+    }
+}
+
+// What a pile answers to the calls.
+pub(crate) fn answers<P: Pile>(
     heap: Global,
-    store: S,
-    table: LineTable,
+    mut pile: P,
     calls: &[Call],
-    reads: &[Call],
-) -> Ran<S> {
-    let mut cache = Cache::new(store, table);
-    let mut blocks = Vec::new(heap);
-    let text = run_calls(heap, &mut cache, &mut blocks, calls);
-    let Closed {
-        mut store,
-        fault: _,
-    } = cache.close();
-    let below = run_calls(heap, &mut store, &mut blocks, reads);
-    Ran {
-        text: joined(text, below),
-        store,
-    }
-}
-
-// The calls through a quota over a cache, and then the reads once more on the store below.
-pub fn on_quota_over_cache<S: Store>(
-    heap: Global,
-    store: S,
-    limit: u64,
-    table: LineTable,
-    calls: &[Call],
-    reads: &[Call],
-) -> Ran<S> {
-    let mut pile = Quota::new(Cache::new(store, table), limit);
-    let mut blocks = Vec::new(heap);
-    let text = run_calls(heap, &mut pile, &mut blocks, calls);
-    let Closed {
-        mut store,
-        fault: _,
-    } = pile.end().close();
-    let below = run_calls(heap, &mut store, &mut blocks, reads);
-    Ran {
-        text: joined(text, below),
-        store,
-    }
-}
-
-// The calls through a cache over a quota, and then the reads once more on the quota.
-pub fn on_cache_over_quota<S: Store>(
-    heap: Global,
-    store: S,
-    limit: u64,
-    table: LineTable,
-    calls: &[Call],
-    reads: &[Call],
-) -> Ran<S> {
-    let Ran { text, store } = on_cache(heap, Quota::new(store, limit), table, calls, reads);
-    Ran {
-        text,
-        store: store.end(),
-    }
-}
-
-// One text after the other.
-fn joined(
-    text: Result<String, AllocError>,
-    more: Result<String, AllocError>,
 ) -> Result<String, AllocError> {
-    let mut text = text?;
-    let more = more?;
-    text.push_str(&more)?;
-    Ok(text)
+    let mut session = Session::new(heap, calls);
+    let made = session.make_all(&mut pile);
+    pile.take_apart(&mut session)?;
+    made?;
+    Ok(session.end())
 }
