@@ -1,8 +1,8 @@
 -- A check of a map's entries, one after another.
-use Rattle.std.proofs.Common.{◌≡◌, ℕ, ◌+◌, ◌<◌, true, false, ◌&&◌, eqb, ltb, List, length, get_or, set, replicate, sym, ap, ◌∙◌, subst, ⊎_elim, arith}
+use Rattle.std.proofs.Common.{◌≡◌, ℕ, ◌+◌, ◌<◌, ◌≤◌, Bool, true, false, ◌&&◌, eqb, ltb, List, length, get_or, set, take, replicate, sym, ap, ◌∙◌, subst, ⊎_elim, arith, length-take, get_or-take}
 use Rattle.std.proofs.lemmas.List.{get_or-set_same, get_or-set_other, get_or-replicate, get_or_past, length-replicate}
 use Rattle.std.proofs.lemmas.Bool.{cases_eq, cases_lt, and_parts, and_cases, ltb-true, ltb-false, eqb-true, eqb-false}
-use Rattle.paged.specs.Frames.{Apt, Awry}
+use Rattle.paged.specs.Frames.{Apt, Awry, Judged}
 use Rattle.paged.specs.Frames.Awry.{outside, twice}
 
 -- the first i entries are apt, and just the frames that they name are noted
@@ -88,3 +88,18 @@ zeros n k =
     (λ l. get_or-replicate n k 0 0 l)
     (λ l. get_or_past (replicate n 0) k 0 (omega (arith, length-replicate {A = ℕ} n 0)))
     (cases_lt k n)
+
+-- the front of a map, judged for itself
+pub judged_front : (map : List ℕ) (n frames : ℕ) (t : Bool) → n ≤ length map → Judged (take n map) (length (take n map)) frames t → Judged map n frames t
+judged_front map n frames t h j = go t (subst (λ k. Judged (take n map) k frames t) same j)
+  where
+    same : length (take n map) ≡ n
+    same = length-take n map ∙ omega (arith, h)
+
+    go : (t : Bool) → Judged (take n map) n frames t → Judged map n frames t
+    go true f = record {
+      inside = λ i l. omega (arith, f.inside i l, get_or-take n map i 0 l);
+      once = λ i j l k e. f.once i j l k (get_or-take n map i 0 l ∙ e ∙ sym (get_or-take n map j 0 k));
+    }
+    go false (outside i l a) = outside i l (omega (arith, a, get_or-take n map i 0 l))
+    go false (twice i j l k e) = twice i j l k (sym (get_or-take n map i 0 (omega arith)) ∙ e ∙ get_or-take n map j 0 k)

@@ -1,7 +1,7 @@
 -- What words scattered over frames mean as a store.
-use Rattle.std.specs.Prelude.{◌≡◌, ℕ, ◌+◌, ◌-◌, ◌*◌, ◌/◌, ◌%◌, ◌<◌, ◌≤◌, Bool, true, false, List, length, slice_index}
-use Rattle.store.specs.Meaning.{Meaning, limit, count_to}
-use Rattle.stores.specs.Table.{in_use, laid, most_blocks}
+use Rattle.std.specs.Prelude.{◌≡◌, ℕ, ◌+◌, ◌-◌, ◌*◌, ◌/◌, ◌%◌, ◌<◌, ◌≤◌, Bool, true, false, List, slice_index}
+use Rattle.store.specs.Meaning.{Meaning}
+use Rattle.stores.specs.Table.{laid}
 
 -- the frames, of 64 words each, that a block of w words has
 abbrev pub frames_of : ℕ → ℕ
@@ -33,12 +33,3 @@ pub data Awry (map : List ℕ) (n frames : ℕ) : Type 0 where
 abbrev pub Judged : List ℕ → ℕ → ℕ → Bool → Type 0
 Judged map n frames true = Apt map n frames
 Judged map n frames false = Awry map n frames
-
--- what a paged store keeps: its capacity c is the most that map and marks hold, the map's entries for so many
--- blocks are apt, and g blocks are granted
-pub record FramesFit (w c g : ℕ) (map marks words : List ℕ) : Type 0 where
-  pub wide : 1 ≤ w
-  pub narrow : w ≤ 512
-  pub whole : c ≡ most_blocks (frames_of w) (length marks) (length map)
-  pub apt : Apt map (c * frames_of w) (length words / 64)
-  pub counted : g ≡ count_to (in_use c marks) limit

@@ -1,4 +1,3 @@
 pub mod Frames
 pub mod Opened
-pub mod Steps
 pub mod Laws

@@ -3,7 +3,7 @@ ghost use Rattle.std.specs.Prelude.{◌≡◌, ℕ, ◌+◌, ◌*◌, ◌/◌, �
 ghost use Rattle.paged.specs.Frames.{frames_of, slot_at, Judged};
 
 use std::alloc::{AllocError, Global};
-use stores::runs::put_mark;
+use stores::runs::put;
 
 // The words of a frame.
 pub const FRAME: usize = 64;
@@ -15,20 +15,14 @@ pub fn frames_of(width: u32) -> u32
     ((width as usize + FRAME - 1) / FRAME) as u32
 }
 
-// An entry of a map; past its end 0.
-pub fn frame_at(map: &[u32], at: usize) -> u32
-    ensures { result ≡ slice_index map.now at }
-{
-    if at < map.len() { map[at] } else { 0 }
-}
-
-// Where the word at a place of the block in a slot stands.
+// Where the word at a place of the block in a slot stands. An entry past the end of the map reads as 0.
 pub fn word_place(map: &[u32], width: u32, slot: u32, place: u32) -> usize
     ensures { result ≡ slot_at width map.now slot place }
 {
     let place = place as usize;
     let at = slot as usize * frames_of(width) as usize + place / FRAME;
-    frame_at(map, at) as usize * FRAME + place % FRAME
+    let frame = map.get(at).copied().unwrap_or(0);
+    frame as usize * FRAME + place % FRAME
 }
 
 // Notes a frame: whether there is such a frame, and it was not noted before.
@@ -37,17 +31,17 @@ fn note(seen: &mut [u8], frame: usize) -> bool
     ensures noted { seen.new ≡ slice_set seen.old frame 1 }
 {
     let fresh = frame < seen.len() && seen[frame] == 0;
-    put_mark(seen, frame, 1);
+    put(seen, frame, 1);
     fresh
 }
 
-// Whether each of the first n entries of a map names a frame that there is, and no two name the same.
-fn once_each(map: &[u32], seen: &mut [u8], n: usize) -> bool
+// Whether each entry of a map names a frame that there is, and no two name the same.
+fn once_each(map: &[u32], seen: &mut [u8]) -> bool
     requires { (k : ℕ) → slice_index seen.old k ≡ 0 }
-    ensures { Judged map.now n (length seen.old) result }
+    ensures { Judged map.now (length map.now) (length seen.old) result }
 {
-    for i in 0..n {
-        if !note(seen, frame_at(map, i) as usize) {
+    for frame in map {
+        if !note(seen, *frame as usize) {
             return false;
         }
     }
@@ -55,9 +49,9 @@ fn once_each(map: &[u32], seen: &mut [u8], n: usize) -> bool
 }
 
 // The same of so many frames, by a table with a byte for each, which is freed again.
-pub fn apt(heap: Global, map: &[u32], n: usize, frames: usize) -> Result<bool, AllocError>
-    ensures { IfOk result (λ t. Judged map.now n frames t) }
+pub fn apt(heap: Global, map: &[u32], frames: usize) -> Result<bool, AllocError>
+    ensures { IfOk result (λ t. Judged map.now (length map.now) frames t) }
 {
     let mut seen = vec![in heap; 0; frames]?;
-    Ok(once_each(map, &mut seen, n))
+    Ok(once_each(map, &mut seen))
 }

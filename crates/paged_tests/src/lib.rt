@@ -3,14 +3,28 @@
 
 #[cfg(test)]
 mod tests {
-    use paged::paged::{Cause, PagedStore};
+    use paged::paged::{Frames, PagedStore};
     use std::alloc::Global;
     use std::process::Abort;
     use std::test::Fail;
     use store::blocks::Store;
-    use store::fault::Fault;
+    use store::fault::{Fault, Unmade};
+    use stores::lent::Runs;
 
     const MAP: [u32; 16] = [16, 3, 9, 0, 12, 5, 1, 7, 15, 2, 8, 4, 10, 6, 11, 13];
+
+    fn runs<'a>(
+        heap: Global,
+        words: &'a mut [u64],
+        marks: &'a mut [u8],
+        map: &'a [u32],
+    ) -> Runs<'a, Frames<'a>> {
+        Runs {
+            words,
+            marks,
+            layout: Frames { map, heap },
+        }
+    }
 
     // The number of a refusal, or 0.
     fn number<T: Drop>(answer: Result<T, Fault>) -> u32 {
@@ -31,7 +45,8 @@ mod tests {
     ) -> Result<(), Fail> {
         let mut words = [7; 1100];
         let mut marks = [9; 16];
-        let Ok(mut store) = PagedStore::fresh(heap, &mut words, &mut marks, &MAP, width) else {
+        let Ok(mut store) = PagedStore::fresh(runs(heap, &mut words, &mut marks, &MAP), width)
+        else {
             return Err(Fail::new("unfit"));
         };
         assert_eq!(rt; store.stock()?.capacity, capacity);
@@ -57,7 +72,8 @@ mod tests {
         let mut words = [7; 320];
         let mut marks = [0, 1, 9];
         let map = [4, 0, 2, 1, 4];
-        let Ok(mut store) = PagedStore::reopen(rt.alloc(), &mut words, &mut marks, &map, 65) else {
+        let Ok(mut store) = PagedStore::reopen(runs(rt.alloc(), &mut words, &mut marks, &map), 65)
+        else {
             return Err(Fail::new("unfit"));
         };
         assert_eq!(rt; number(store.give_back(1)), 8);
@@ -75,11 +91,11 @@ mod tests {
     fn refused(heap: Global, map: [u32; 3], width: u32) -> u32 {
         let mut words = [0; 300];
         let mut marks = [0; 4];
-        match PagedStore::fresh(heap, &mut words, &mut marks, &map, width) {
+        match PagedStore::fresh(runs(heap, &mut words, &mut marks, &map), width) {
             Ok(_) => 0,
             Err(unfit) => match unfit.cause {
-                Cause::Refused(fault) => fault.refusal.number(),
-                Cause::NoMemory => 99,
+                Unmade::Refused(fault) => fault.refusal.number(),
+                Unmade::NoMemory => 99,
             },
         }
     }
@@ -97,7 +113,8 @@ mod tests {
     fn has_no_room(rt: HostRuntime) -> Result<(), Fail> {
         let mut words = [0; 64];
         let mut marks = [0; 1];
-        let Ok(mut store) = PagedStore::fresh(rt.alloc(), &mut words, &mut marks, &[0], 65) else {
+        let Ok(mut store) = PagedStore::fresh(runs(rt.alloc(), &mut words, &mut marks, &[0]), 65)
+        else {
             return Err(Fail::new("unfit"));
         };
         assert_eq!(rt; number(store.take()), 6);

@@ -1,2 +1,2 @@
 pub mod LaidCalls
-pub mod TableCalls
+pub mod LentCalls

@@ -1,3 +1,4 @@
 pub mod Clearing
 pub mod Laid
+pub mod Plans
 pub mod Tables

@@ -1,6 +1,6 @@
 -- What a table of words and marks means as a store.
-use Rattle.std.specs.Prelude.{◌≡◌, ℕ, zero, suc, ◌+◌, ◌-◌, ◌*◌, ◌/◌, ◌≤◌, min, Bool, false, cond, not, ◌&&◌, List, [], length, ◌==◌, nat_le, nat_lt, slice_index, slice_set}
-use Rattle.store.specs.Meaning.{Shape, Meaning, limit, count_to}
+use Rattle.std.specs.Prelude.{ℕ, zero, suc, ◌+◌, ◌-◌, ◌*◌, ◌/◌, min, Bool, false, cond, not, ◌&&◌, List, [], ◌==◌, nat_le, nat_lt, slice_index, slice_set}
+use Rattle.store.specs.Meaning.{Shape, Meaning, limit}
 
 -- the block number b is within the capacity, and its mark is not 0
 unfoldable pub in_use : ℕ → List ℕ → ℕ → Bool
@@ -52,10 +52,3 @@ cleared s n xs = wiped (λ i. s + i) n xs
 -- marks of which the first c are 0
 abbrev pub unmarked : ℕ → List ℕ → List ℕ
 unmarked c marks = cleared 0 c marks
-
--- what a table keeps: its capacity c is the most that its runs hold, and g blocks are granted
-pub record Fits (w c g : ℕ) (marks words : List ℕ) : Type 0 where
-  pub wide : 1 ≤ w
-  pub narrow : w ≤ 512
-  pub whole : c ≡ most_blocks w (length marks) (length words)
-  pub counted : g ≡ count_to (in_use c marks) limit

@@ -1,11 +1,17 @@
 -- Words scattered over frames stand each in a place of its own.
 use Rattle.std.specs.Prelude.{◌≡◌, ℕ, ◌*◌, ◌/◌, ◌<◌, ◌≤◌, List, length, slice_index_or}
-use Rattle.std.proofs.Common.{arith}
+use Rattle.std.proofs.Common.{refl, subst, arith}
+use Rattle.store.specs.declared.fault.Unmade.{Unmade}
+use Rattle.store.specs.declared.fault.Unmade.TheVariants.{Refused, NoMemory}
 use Rattle.store.specs.Meaning.{Sound}
 use Rattle.stores.specs.Table.{in_row}
 use Rattle.stores.specs.Laws.Laid.{Lies, laid_sound}
+use Rattle.stores.specs.Plan.{Suits}
+use Rattle.stores.specs.Laws.Plans.{Lawful}
 use Rattle.stores.specs.Laws.Tables.{block_end, row_apart, most_fits}
-use Rattle.paged.specs.Frames.{frames_of, paged_at, paged, Apt, Awry, FramesFit}
+use Rattle.paged.specs.Frames.{frames_of, paged_at, paged, Apt, Awry}
+use Rattle.paged.specs.Opened.{FramesFit, Misfits, Because, frames_plan}
+use Rattle.paged.specs.Opened.Misfits.{no_width, no_frames}
 use Rattle.paged.specs.Frames.Awry.{outside, twice}
 
 -- no map is both
@@ -44,3 +50,16 @@ module _ {w c g : ℕ} {map marks ws : List ℕ} (f : FramesFit w c g map marks 
   -- a paged store that keeps its state means a sound store
   pub frames_sound : Sound (paged w c map marks ws)
   frames_sound = laid_sound frames_lie
+
+-- of runs that suit nothing but want of memory is told
+only_memory : (map : List ℕ) {w marks words c : ℕ} (e : Unmade) → Suits (frames_plan map) w marks words c → Because w map marks words e → e ≡ NoMemory
+only_memory map NoMemory s b = refl
+only_memory map {w} {marks} {words} {c} (Refused x) s b = absurd (never b.1)
+  where
+    never : Misfits w map marks words → ⊥
+    never (no_width h) = let l = h s.wide in omega (arith, s.narrow)
+    never (no_frames a) = not_both (subst (λ k. Apt map (k * frames_of w) (words / 64)) s.whole s.apt) a
+
+-- the laws of frames
+pub frames_lawful : (map : List ℕ) → Lawful (frames_plan map)
+frames_lawful map = record { lies = λ f. frames_lie f; spared = λ s b. only_memory map _ s b }

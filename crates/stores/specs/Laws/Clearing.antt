@@ -1,7 +1,8 @@
 -- What clearing leaves at each place.
 use Rattle.std.specs.Prelude.{◌≡◌, ℕ, zero, suc, ◌+◌, ◌-◌, ◌<◌, ◌≤◌, min, List, length, set, ◌≢◌, slice_index, slice_set}
 use Rattle.std.proofs.Math.Path.{refl}
-use Rattle.std.proofs.Common.{sym, ap, ◌∙◌, ⊎_elim, arith, add-one}
+use Rattle.std.proofs.Common.{sym, ap, ap₂, ◌∙◌, ⊎_elim, arith, add-one, zero-add, ◌++◌, drop, replicate}
+use Rattle.std.proofs.lemmas.List.Edits.{fill_none, fill_more}
 use Rattle.std.proofs.lemmas.List.{length-set, get_or-set_same, get_or-set_other, get_or_past, set_past}
 use Rattle.std.proofs.lemmas.Bool.{cases_eq, cases_lt}
 use Rattle.stores.specs.Table.{wiped, cleared}
@@ -99,3 +100,13 @@ cleared_top xs n i q =
     (λ (l : n < length xs). let z : i ≡ n = omega arith in ap (λ k. cleared 0 k xs) z)
     (λ (l : length xs ≤ n). cleared_past 0 xs i n (omega arith) (omega arith))
     (cases_lt n (length xs))
+
+-- the first n places cleared, as a run of zeros and the rest
+pub cleared_front : (n : ℕ) (xs : List ℕ) → n ≤ length xs → cleared 0 n xs ≡ replicate n 0 ++ drop n xs
+cleared_front zero xs h = cleared_none 0 xs ∙ fill_none xs 0
+cleared_front (suc n) xs h =
+    ap (λ k. cleared 0 k xs) (sym (add-one n))
+    ∙ cleared_more 0 xs n
+    ∙ ap₂ (λ ys k. set ys k 0) (cleared_front n xs (omega arith)) (zero-add n)
+    ∙ fill_more n 0 xs (omega arith)
+    ∙ ap (λ k. replicate k 0 ++ drop k xs) (add-one n)

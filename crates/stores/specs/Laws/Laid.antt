@@ -1,10 +1,11 @@
 -- A store by its marks and words, wherever the words of its blocks stand.
-use Rattle.std.specs.Prelude.{◌≡◌, ℕ, ◌+◌, ◌-◌, ◌<◌, ◌≤◌, min, Bool, true, false, cond, not, ◌&&◌, List, length, ◌==◌, ◌≢◌, nat_le, nat_lt, slice_index, slice_index_or, slice_set}
+use Rattle.std.specs.Prelude.{◌≡◌, ℕ, zero, suc, ◌+◌, ◌-◌, ◌<◌, ◌≤◌, min, Bool, true, false, cond, not, ◌&&◌, List, ◌∷◌, length, filter, ◌==◌, ◌≢◌, nat_le, nat_lt, slice_index, slice_index_or, slice_set}
+use Rattle.std.specs.List.{range_with_len}
 use Rattle.std.proofs.Math.Path.{refl, ap, fun_ext}
-use Rattle.std.proofs.Common.{sym, ap₂, ◌∙◌, ⊎_elim}
+use Rattle.std.proofs.Common.{sym, ap₂, ◌∙◌, ⊎_elim, add-zero, zero-add}
 use native.Mathlib.Omega.{arith}
 use Rattle.std.proofs.lemmas.List.{get_or-set_same, get_or-set_other}
-use Rattle.std.proofs.lemmas.Bool.{cases_Bool, cases_lt, and_parts, and_from, and_left, and_right, ltb-true, leb-true, lt-ltb, le-leb, lt-leb, le-ltb, eqb-false, eq-eqb, ne_eqb, not-true, not_from_true, not_from_false, cond-true, cond-false}
+use Rattle.std.proofs.lemmas.Bool.{cases_Bool, cases_lt, and_parts, and_from, and_left, and_right, ltb-true, leb-true, lt-ltb, le-leb, lt-leb, le-ltb, eqb-true, eqb-false, eq-eqb, ne_eqb, not-true, not-false, not_from_true, not_from_false, cond-true, cond-false}
 use Rattle.store.specs.Meaning.{Sound, limit, count_to, with_at, with_blocks, taken, returned, written}
 use Rattle.store.specs.Laws.Changes.{with_at_from}
 use Rattle.store.specs.Laws.Counts.{count_past, count_full, count_on, count_off, count_none, count_more, count_less}
@@ -230,3 +231,22 @@ module _ (c : ℕ) (marks : List ℕ) where
   -- a loop's step past a mark that is not set
   pub mark_off : (i n : ℕ) → slice_index marks i ≡ 0 → n ≡ count_to (in_use c marks) i → n ≡ count_to (in_use c marks) (i + 1)
   mark_off i n e h = count_off (in_use c marks) i n (free_from c marks (i + 1) (ap (λ k. slice_index marks k) (sym (back_one i)) ∙ e)) h
+
+  -- the slots that are marked, one after another
+  pub count_slots : (test : ℕ → Bool) → ((i : ℕ) → test i ≡ not (slice_index marks i == 0)) → (a n : ℕ) → a + n ≤ c → length (filter test (range_with_len a n)) + count_to (in_use c marks) a ≡ count_to (in_use c marks) (a + n)
+  count_slots test e a zero h = zero-add (count_to (in_use c marks) a) ∙ ap (count_to (in_use c marks)) (sym (add-zero a))
+  count_slots test e a (suc n) h =
+      let k = count_to (in_use c marks) a in
+      let ys = range_with_len (a + 1) n in
+      let q : a + 1 + n ≡ a + suc n = omega arith in
+      let rest = count_slots test e (a + 1) n (omega arith) ∙ ap (count_to (in_use c marks)) q in
+      ⊎_elim
+      (λ (t : test a ≡ true).
+      let one = mark_on a k (omega arith) (eqb-false (slice_index marks a) 0 (not-true _ (sym (e a) ∙ t))) refl in
+      let l = ap length (cond-true (test a) (a ∷ filter test ys) (filter test ys) t) in
+      omega (arith, l, one, rest))
+      (λ (t : test a ≡ false).
+      let one = mark_off a k (eqb-true (slice_index marks a) 0 (not-false _ (sym (e a) ∙ t))) refl in
+      let l = ap length (cond-false (test a) (a ∷ filter test ys) (filter test ys) t) in
+      omega (arith, l, one, rest))
+      (cases_Bool (test a))

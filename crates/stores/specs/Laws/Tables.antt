@@ -3,8 +3,10 @@ use Rattle.std.specs.Prelude.{◌≡◌, ℕ, suc, ◌+◌, ◌-◌, ◌*◌, �
 use Rattle.std.proofs.Common.{ap, ⊎_elim, arith, suc-mul, mul-le-mul_right, div-mul-le_self}
 use Rattle.std.proofs.lemmas.Bool.{cases_lt, cases_eq}
 use Rattle.store.specs.Meaning.{Sound, limit}
-use Rattle.stores.specs.Table.{in_row, table, most_blocks, Fits}
+use Rattle.stores.specs.Table.{in_row, table, most_blocks}
+use Rattle.stores.specs.Rows.{rows_plan, Fits}
 use Rattle.stores.specs.Laws.Laid.{Lies, laid_sound}
+use Rattle.stores.specs.Laws.Plans.{Lawful}
 
 -- where the words of a block end
 pub block_end : (w b c : ℕ) → 1 ≤ b → b ≤ c → (b - 1) * w + w ≤ c * w
@@ -30,21 +32,27 @@ most_fits w c m n e =
     let k : c ≤ n / w = omega arith in
     (omega arith, omega arith, omega (arith, mul-le-mul_right w k, div-mul-le_self n w))
 
-module _ {w c g : ℕ} {marks ws : List ℕ} (f : Fits w c g marks ws) where
-  -- what a table keeps
-  pub fits_lies : Lies (in_row w) w c g marks ws
-  fits_lies =
-      let r = most_fits w c (length marks) (length ws) f.whole in
-      record {
-        wide = f.wide;
-        narrow = f.narrow;
-        few = r.0;
-        marked = r.1;
-        inside = λ b p l h k. omega (arith, block_end w b c l h, r.2);
-        apart = λ a b i j la ha lb hb hi hj e. row_apart w a b i j la lb hi hj e;
-        counted = f.counted;
-      }
+-- what a table keeps
+pub fits_lies : {w c g : ℕ} {marks ws : List ℕ} → Fits w c g marks ws → Lies (in_row w) w c g marks ws
+fits_lies {w} {c} {g} {marks} {ws} f =
+    let r = most_fits w c (length marks) (length ws) f.whole in
+    record {
+      wide = f.wide;
+      narrow = f.narrow;
+      few = r.0;
+      marked = r.1;
+      inside = λ b p l h k. omega (arith, block_end w b c l h, r.2);
+      apart = λ a b i j la ha lb hb hi hj e. row_apart w a b i j la lb hi hj e;
+      counted = f.counted;
+    }
 
-  -- a table that keeps its state means a sound store
-  pub fits_sound : Sound (table w c marks ws)
-  fits_sound = laid_sound fits_lies
+-- a table that keeps its state means a sound store
+pub fits_sound : {w c g : ℕ} {marks ws : List ℕ} → Fits w c g marks ws → Sound (table w c marks ws)
+fits_sound f = laid_sound (fits_lies f)
+
+-- the laws of a table
+pub rows_lawful : Lawful rows_plan
+rows_lawful = record {
+  lies = λ f. fits_lies f;
+  spared = λ s b. let h = b.no_width s.wide in absurd (omega (arith, s.narrow));
+}
