@@ -27,6 +27,15 @@ not_word m k n b f w s e g (word_down r l) d = use_lost (fallen m k n f s e r d 
 not_word m k n b f w s e g (word_missing r z h l) d = absurd (both_ways (k.granted b) h g)
 not_word m k n b f w s e g (word_outside r z h j l) d = let x = ap (λ z. z.width) s in absurd (omega arith)
 
+-- the block that was taken is granted, and has the word
+pub one_granted : (x : ℕ) (m : Meaning) (b : ℕ) → (with_one x m b).granted b ≡ true
+one_granted x m b = with_at_here m.granted b true
+
+pub one_there : (x : ℕ) (m : Meaning) (b : ℕ) → (with_one x m b).words b 0 ≡ x
+one_there x m b =
+    ap (λ β. β 0) (with_at_here (taken m b).words b (with_at ((taken m b).words b) 0 x))
+    ∙ with_at_here ((taken m b).words b) 0 x
+
 module _ {m k : Meaning} {b : ℕ} (s : Sound m) (t : TakeDone m b k) where
   granted_now : k.granted b ≡ true
   granted_now = ap (λ z. z.granted b) t.after ∙ with_at_here m.granted b true
@@ -39,10 +48,7 @@ module _ {m k : Meaning} {b : ℕ} (s : Sound m) (t : TakeDone m b k) where
     both = u.after ∙ ap (λ z. written z b 0 x) t.after
 
     there : j.words b 0 ≡ x
-    there =
-        ap (λ z. z.words b 0) both
-        ∙ ap (λ β. β 0) (with_at_here (taken m b).words b (with_at ((taken m b).words b) 0 x))
-        ∙ with_at_here ((taken m b).words b) 0 x
+    there = ap (λ z. z.words b 0) both ∙ one_there x m b
 
     pub one_used : (n : Meaning) (r : Result ℕ Fault) → Get b 0 j r n → Deep j r → Use m.shape x m r n
     one_used n (Ok v) g d = record {

@@ -4,9 +4,8 @@ use Rattle.std.proofs.lemmas.Bool.{both_ways}
 use Rattle.store.specs.declared.fault.Fault.{Fault}
 use Rattle.store.specs.declared.fault.Refusal.TheVariants.{NoRoom}
 use Rattle.store.specs.Faults.{one_deeper}
-use Rattle.store.specs.Meaning.{Shape, Meaning, limit, with_at, taken}
+use Rattle.store.specs.Meaning.{Shape, Meaning, limit}
 use Rattle.store.specs.Calls.{Left}
-use Rattle.store.specs.Laws.Changes.{with_at_here}
 use Rattle.stores.specs.declared.lent.LentStore.{LentStore}
 use Rattle.stores.specs.declared.lent.Runs.{Runs}
 use Rattle.stores.specs.Table.{in_use, laid, blank}
@@ -16,17 +15,10 @@ use Rattle.stores.specs.Opened.{Fresh, Ready, means}
 use Rattle.piles.specs.declared.one.Ended.{Ended}
 use Rattle.piles.specs.One.{Use, UseFails, with_one, caused_by}
 use Rattle.piles.specs.One.UseFails.{use_full, use_lost}
+use Rattle.piles.proofs.Ones.{one_granted, one_there}
 use Rattle.piles.specs.Runs.{Returned, blocks_in, runs_mean, RunsSuit, RunsDone, RunsFull, Served, Ran, OverFresh}
 use Rattle.piles.specs.Runs.OverFresh.{not_made, made}
 use Rattle.piles.specs.Runs.RunsFail.{runs_unfit, pile_fail}
-
-one_granted : (x : ℕ) (m : Meaning) (b : ℕ) → (with_one x m b).granted b ≡ true
-one_granted x m b = with_at_here m.granted b true
-
-one_there : (x : ℕ) (m : Meaning) (b : ℕ) → (with_one x m b).words b 0 ≡ x
-one_there x m b =
-    ap (λ β. β 0) (with_at_here (taken m b).words b (with_at ((taken m b).words b) 0 x))
-    ∙ with_at_here ((taken m b).words b) 0 x
 
 module _ {L E : Type 0} (plan : L → Plan E) where
   -- the runs mean what the store that was ended into them meant

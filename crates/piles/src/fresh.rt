@@ -12,11 +12,13 @@ use stores::layout::Layout;
 use stores::lent::{LentStore, Runs};
 
 // Makes a fresh store in lent runs, takes a step with it, and ends it into its runs.
-pub fn over_fresh<'a, L: Layout, F: FnOnce(LentStore<'a, L>) -> Ended<L::Cause, LentStore<'a, L>>>(
+pub fn over_fresh<'a, L: Layout, F>(
     runs: Runs<'a, L>,
     width: u32,
     step: F,
 ) -> Ended<L::Cause, Runs<'a, L>>
+where
+    F: FnOnce(LentStore<'a, L>) -> Ended<L::Cause, LentStore<'a, L>>,
     requires { (s : _) → Fresh L.plan width runs.layout runs.marks.now runs.words.now s → F.pre step s }
     ensures { OverFresh L.plan (F.post step) width runs.entry result }
 {

@@ -43,6 +43,7 @@ pub fn cached_quota<S: Store>(store: S, table: LineTable, q: u64, word: u64) -> 
 
 // Puts a word into a block of a fresh paged store through a quota of q blocks and a cache of so many lines above it,
 // then ends all: the word stands in the lent words.
+#[tactic(auto, using(crate::proofs::Lined::with_lines))]
 pub fn cache_over_quota_over_paged<'a>(
     runs: Runs<'a, Frames<'a>>,
     width: u32,
