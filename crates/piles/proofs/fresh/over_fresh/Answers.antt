@@ -15,6 +15,4 @@ returns-in-Ok g c =
     })
 
 pub returns-in-Err : goal.returns-in-Err
-returns-in-Err g c =
-    let u = c.in-Err.ensures in
-    not_made _ refl (record { because = u.because; left = record { same_layout = u.layout_left; same_marks = u.marks_left; same_words = u.words_left } })
+returns-in-Err g c = not_made c.in-Err.field-0.cause (search rules) (search rules)
