@@ -1,5 +1,5 @@
 -- What a pile over fresh runs leaves in them.
-use Rattle.std.proofs.Common.{◌≡◌, ℕ, ◌≤◌, Bool, true, false, cond, length, Ok, Err, Result, sym, refl, ap, ap₂, ◌∙◌, subst, arith}
+use Rattle.std.proofs.Common.{◌≡◌, ℕ, ◌≤◌, Bool, true, false, cond, length, Ok, Err, Result, rules, sym, refl, ap, ap₂, ◌∙◌, subst, arith}
 use Rattle.std.proofs.lemmas.Bool.{both_ways}
 use Rattle.store.specs.declared.fault.Fault.{Fault}
 use Rattle.store.specs.declared.fault.Refusal.TheVariants.{NoRoom}
@@ -24,29 +24,22 @@ module _ {L E : Type 0} (plan : L → Plan E) where
   -- the runs mean what the store that was ended into them meant
   runs_are : {w : ℕ} {t : LentStore L} {b : Runs L} → Returned t b → Ready plan t → t.width ≡ w → runs_mean plan w b ≡ means plan t
   runs_are {w} {t} {b} r h e =
-      ap (λ l. laid (block_at (plan l) w) w ((plan l).most w (length b.marks.now) (length b.words.now)) b.marks.now b.words.now) r.same_layout
-      ∙ ap₂ (λ ms ws. laid (block_at (plan t.layout) w) w ((plan t.layout).most w (length ms) (length ws)) ms ws) r.same_marks r.same_words
-      ∙ ap (λ v. laid (block_at (plan t.layout) v) v ((plan t.layout).most v (length t.grants.marks.now) (length t.words.now)) t.grants.marks.now t.words.now) (sym e)
-      ∙ ap (λ c. laid (block_at (plan t.layout) t.width) t.width c t.grants.marks.now t.words.now) (sym h.whole)
+      search rules
 
   module _ (w : ℕ) (a : Runs L) {s : LentStore L} (f : Fresh plan w a.layout a.marks.now a.words.now s) where
-    -- runs that a store was made in
     abbrev start : Meaning
     start = blank w (blocks_in plan w a)
 
+    -- runs that a store was made in
     suits : RunsSuit plan w a
     suits =
         let e : s.width ≡ w = ap (λ m. m.shape.width) f.same in
         let c : s.grants.capacity ≡ blocks_in plan w a = ap (λ m. m.shape.capacity) f.same in
         record {
-          wide = subst (λ k. 1 ≤ k) e f.ready.wide;
-          narrow = subst (λ k. k ≤ 512) e f.ready.narrow;
+          wide = omega (arith, e, f.ready.wide);
+          narrow = omega (arith, e, f.ready.narrow);
           whole = refl;
-          apt =
-              subst (λ ws. (plan a.layout).apt w (blocks_in plan w a) (length ws)) f.words_left
-              (subst (λ l. (plan l).apt w (blocks_in plan w a) (length s.words.now)) f.layout_left
-              (subst (λ k. (plan s.layout).apt k (blocks_in plan w a) (length s.words.now)) e
-              (subst (λ k. (plan s.layout).apt s.width k (length s.words.now)) c f.ready.apt)));
+          apt = grind arith;
         }
 
     module _ (top : Shape) (x deep : ℕ) (t : LentStore L) (b : Runs L) (d : top.depth NoRoom 0 ≡ deep) (r : Returned t b) (h : Ready plan t) where
