@@ -1,5 +1,5 @@
 -- What a pile over fresh runs leaves in them.
-use Rattle.std.proofs.Common.{◌≡◌, ℕ, ◌≤◌, Bool, true, false, cond, length, Ok, Err, Result, rules, sym, refl, ap, ap₂, ◌∙◌, subst, arith}
+use Rattle.std.proofs.Common.{◌≡◌, ℕ, Bool, true, false, cond, Ok, Err, Result, rules, sym, refl, ap, ◌∙◌, subst, arith}
 use Rattle.std.proofs.lemmas.Bool.{both_ways}
 use Rattle.store.specs.declared.fault.Fault.{Fault}
 use Rattle.store.specs.declared.fault.Refusal.TheVariants.{NoRoom}
@@ -8,7 +8,7 @@ use Rattle.store.specs.Meaning.{Shape, Meaning, limit}
 use Rattle.store.specs.Calls.{Left}
 use Rattle.stores.specs.declared.lent.LentStore.{LentStore}
 use Rattle.stores.specs.declared.lent.Runs.{Runs}
-use Rattle.stores.specs.Table.{in_use, laid, blank}
+use Rattle.stores.specs.Table.{in_use, blank}
 use Rattle.stores.specs.Plan.{Plan, block_at}
 use Rattle.stores.specs.Laws.Laid.{used_parts, word_used, count_blank}
 use Rattle.stores.specs.Opened.{Fresh, Ready, means}
@@ -54,7 +54,7 @@ module _ {L E : Type 0} (plan : L → Plan E) where
             value = u.value;
             block = u.block;
             low = u.low;
-            high = subst (λ k. u.block ≤ k) (ap (λ m. m.shape.capacity) after) (used_parts _ _ _ granted).1;
+            high = omega (arith, ap (λ m. m.shape.capacity) after, (used_parts _ _ _ granted).1);
             after = after;
             stands = sym (word_used (block_at (plan b.layout) w) w (blocks_in plan w b) b.marks.now b.words.now u.block 0 granted suits.wide)
                 ∙ ap (λ m. m.words u.block 0) after
@@ -69,7 +69,7 @@ module _ {L E : Type 0} (plan : L → Plan E) where
             no_room = omega (arith, u.no_room, count_blank limit);
             refusal = u.refusal;
             block = u.block;
-            depth = u.depth ∙ ap (λ k. top.depth NoRoom k) (count_blank limit) ∙ d;
+            depth = search (rules, count_blank);
             after = runs_are r h (ap (λ m. m.shape.width) u.same) ∙ u.same;
           }
       full e (use_lost u) = absurd (both_ways false refl u.is_down)
@@ -90,8 +90,8 @@ pub piled_as : {L E : Type 0} {plan : L → Plan E} {cause : Fault → E} {tops 
 piled_as {L} {E} {plan} {cause} {tops} {x} {s} e {t} a b u = record {
   told = e.answer;
   answer = a;
-  used = subst (λ k. Use (tops (means plan s).shape) x (means plan s) e.answer (means plan k)) (sym b) u.call;
-  ready = subst (Ready plan) (sym b) u.ready;
+  used = search rules;
+  ready = search rules;
 }
 
 same_caused : (r : Result ℕ Fault) → r ≡ caused_by (λ f. f) r
