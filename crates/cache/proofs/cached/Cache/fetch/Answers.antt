@@ -1,9 +1,27 @@
 use Rattle.std.proofs.Common.{◌≡◌, sym, ap, subst}
 use Rattle.cache.specs.Lines.{views, table_views}
 use Rattle.cache.specs.Cache.{Held}
-use Rattle.cache.specs.Steps.{Brought, Missing}
-use Rattle.cache.proofs.Fetches.{first_ok, fetched}
+use Rattle.cache.specs.Steps.{FetchFails, Brought, Missing}
+use Rattle.cache.proofs.Exits.{at_exit}
+use Rattle.cache.proofs.Fetches.{first_err, first_ok, fetched}
 use Rattle.cache.proofs.cached.Cache.fetch.Goals as goal
+
+pub returns-in_err-note-clause-works : goal.returns-in_err-note-clause-works
+returns-in_err-note-clause-works g c =
+    rw (at_exit _ _ c.from_residual.ensures)
+    (λ r h _.
+    let s = c.args.self.now in
+    let m = g.S.Store.meaning s.store in
+    let n = g.S.Store.meaning c.get-first.new.self in
+    let vs = table_views s.table in
+    let ve : table_views c.note.new.self ≡ vs = ap (λ l. views l.items) c.note.ensures.lines in
+    let e = c.get-first.ensures.keeps r in
+    let all = first_err c.args.block c.args.place c.get-first.result c.in_err-note.ensures.answer e.call e.deep c.note.ensures.lost h in
+    record {
+      call = subst (λ us. FetchFails c.args.block c.args.place c.in_err-note.field-0.0 m vs n us) (sym ve) all.0;
+      ready = e.ready;
+      held = subst (Held n c.note.new.self.lost) (sym ve) all.1;
+    })
 
 pub returns-clause-works : goal.returns-clause-works
 returns-clause-works g c r h _ =

@@ -1,11 +1,32 @@
 use Rattle.std.proofs.Common.{◌≡◌, ℕ, ◌<◌, length, set, sym, refl, ap, ◌∙◌, subst, arith}
 use Rattle.std.proofs.lemmas.List.{length-map}
-use Rattle.store.specs.Calls.{GiveDone}
+use Rattle.store.specs.Calls.{GiveFails, GiveDone}
 use Rattle.cache.specs.Lines.{view, views, nth, table_views, free_view}
 use Rattle.cache.specs.Cache.{cached, Held}
 use Rattle.cache.proofs.TableLines.{line_set, block_at}
-use Rattle.cache.proofs.Services.{gave, gave_line}
+use Rattle.cache.proofs.Services.{give_err, gave, gave_line}
+use Rattle.cache.proofs.Exits.{at_exit}
 use Rattle.cache.proofs.cached.CacheStore.give_back.Goals as goal
+
+pub returns-in_err-note-clause-keeps : goal.returns-in_err-note-clause-keeps
+returns-in_err-note-clause-keeps g c =
+    rw (at_exit _ _ c.from_residual.ensures)
+    (λ r.
+    let s = c.args.self.now in
+    let b = c.args.block in
+    let m = g.S.Store.meaning s.store in
+    let n = g.S.Store.meaning c.give_back-r.new.self in
+    let vs = table_views s.table in
+    let x = c.in_err-note.field-0.0 in
+    let ve : table_views c.note.new.self ≡ vs = ap (λ l. views l.items) c.note.ensures.lines in
+    let law = g.S.Store.sound s.store r.0 in
+    let e = c.give_back-r.ensures.keeps r.0 in
+    let all = give_err law.none_at_zero r.1 b c.give_back-r.result c.in_err-note.ensures.answer e.call e.deep c.note.ensures.lost in
+    record {
+      call = subst (λ us. GiveFails b x.refusal x.block (cached vs m) (cached us n)) (sym ve) all.0;
+      deep = all.1;
+      ready = (e.ready, subst (Held n c.note.new.self.lost) (sym ve) all.2);
+    })
 
 pub returns-in-Some-clause-keeps : goal.returns-in-Some-clause-keeps
 returns-in-Some-clause-keeps g c r =
