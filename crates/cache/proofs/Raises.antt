@@ -5,11 +5,10 @@ use Rattle.store.specs.declared.fault.Refusal.{Refusal}
 use Rattle.store.specs.declared.fault.Refusal.TheVariants.{Down, NoRoom, NotGranted, Outside}
 use Rattle.store.specs.Faults.{number_of, one_deeper, deeper}
 use Rattle.store.specs.Meaning.{Meaning, Fell}
-use Rattle.store.specs.Calls.{Kept, WordFails, TakeFails, GiveFails, StockFails}
+use Rattle.store.specs.Calls.{Kept, WordFails, TakeFails, GiveFails}
 use Rattle.store.specs.Calls.WordFails.{word_down, word_missing, word_outside}
 use Rattle.store.specs.Calls.TakeFails.{take_down, take_full}
 use Rattle.store.specs.Calls.GiveFails.{give_down, give_missing}
-use Rattle.store.specs.Calls.StockFails.{stock_down}
 use Rattle.cache.specs.Lines.{View, NotedErr}
 use Rattle.cache.specs.Cache.{cached, cached_shape, Held}
 use Rattle.cache.specs.Steps.{Falls}
@@ -42,9 +41,6 @@ pub take_cached : {at : ℕ} {r : Refusal} {m n : Meaning} (vs : List View) → 
 take_cached vs (take_down e f) = take_down e (fell_cached vs vs f)
 take_cached vs (take_full e a l k) = take_full e a l (kept_cached vs k)
 
-pub stock_cached : {r : Refusal} {m n : Meaning} (vs : List View) → StockFails r m n → StockFails r (cached vs m) (cached vs n)
-stock_cached vs (stock_down e f) = stock_down e (fell_cached vs vs f)
-
 -- the lines after a call that changed nothing
 pub held_same : {m n : Meaning} {lost lost' : Bool} {vs : List View} → lost' ≡ lost → n ≡ m → Held m lost vs → Held n lost' vs
 held_same {n = n} {lost} {lost'} {vs} e q h = subst (λ t. Held n t vs) (sym e) (subst (λ k. Held k lost vs) (sym q) h)
@@ -74,6 +70,3 @@ module _ {m n : Meaning} {lost lost' : Bool} {vs : List View} (f : Fault) (t : N
   pub held_take : {at : ℕ} → TakeFails f.refusal at m n → Held n lost' vs
   held_take (take_down e k) = held_falls t e k h
   held_take (take_full e a l k) = kept (λ (z : number_of NoRoom ≡ 1). omega arith) e k
-
-  pub held_stock : StockFails f.refusal m n → Held n lost' vs
-  held_stock (stock_down e k) = held_falls t e k h
