@@ -10,7 +10,7 @@ pub loop-i-preserved : goal.loop-i-preserved
 loop-i-preserved g c h =
     let i = c.loop-i.invariant h in
     let e = c.in_ok-copy_word.ensures i.ready in
-    record { call = λ p. run_up _ _ _ c.args.len c.loop-i.i _ _ _ _ c.ahead.ensures c.ahead-in-loop-i.ensures e.call p c.loop-i-test.true c.if-forward.true (i.call p); ready = e.ready }
+    record { call = λ p. run_up _ _ _ c.args.len c.loop-i.i _ _ _ _ c.ahead.ensures c.ahead-in-loop-i.ensures e.call p c.loop-i-test.true (omega (arith, c.if-forward.true)) (i.call p); ready = e.ready }
 
 pub returns-in_err-copy_word : goal.returns-in_err-copy_word
 returns-in_err-copy_word g c =
