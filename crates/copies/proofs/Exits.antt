@@ -1,5 +1,5 @@
 -- What the exit of a `?` returns, and how work begun earlier is lost. Assumes nothing.
-use Rattle.std.proofs.Common.{◌≡◌, ℕ, true, is_err, IsErrAnd, Ok, Err, Result, ap, ◌∙◌, arith}
+use Rattle.std.proofs.Common.{◌≡◌, ℕ, true, is_err, IsErrAnd, Ok, Err, Result, ap, ◌∙◌, subst, arith}
 use Rattle.std.proofs.lemmas.Bool.{both_ways}
 use Rattle.store.specs.declared.fault.Fault.{Fault}
 use Rattle.store.specs.declared.fault.Refusal.{Refusal}
@@ -70,6 +70,17 @@ set_edit m n b p x h = h.after
 pub set_work : (m n : Meaning) (b p x : ℕ) (r : Result (Unit {0}) Fault) → Set b p x m r n → Deep m r → Work (Word b p) (Edited b (λ β. with_at β p x)) m r n
 set_work m n b p x (Ok _) h d = λ k. set_edit m n b p x h
 set_work m n b p x (Err f) h d = λ k. word_lost k h d
+
+-- the same where the block, the place and the word are known to be these
+pub set_at : (m n : Meaning) (b p x : ℕ) {b' p' x' : ℕ} → SetDone m b' p' x' n → b' ≡ b → p' ≡ p → x' ≡ x → n ≡ edit m b (λ β. with_at β p x)
+set_at m n b p x h d e f = set_edit m n _ _ _ h ∙ (λ z. edit m (d z) (λ β. with_at β (e z) (f z)))
+
+pub fails_at : {r : Refusal} {at : ℕ} {m n : Meaning} {b p b' p' : ℕ} → WordFails b' p' r at m n → b' ≡ b → p' ≡ p → WordFails b p r at m n
+fails_at {r} {at} {m} {n} {b} {p} {b'} {p'} h d e = subst (λ z. WordFails z p r at m n) d (subst (λ z. WordFails b' z r at m n) e h)
+
+pub set_work_at : (m n : Meaning) (b p x : ℕ) {b' p' x' : ℕ} (r : Result (Unit {0}) Fault) → Set b' p' x' m r n → Deep m r → b' ≡ b → p' ≡ p → x' ≡ x → Work (Word b p) (Edited b (λ β. with_at β p x)) m r n
+set_work_at m n b p x (Ok _) h k d e f = λ _. set_at m n b p x h d e f
+set_work_at m n b p x (Err y) h k d e f = λ q. word_lost q (fails_at h d e) k
 
 -- a word read, as work
 pub get_work : (m n : Meaning) (b p : ℕ) (r : Result ℕ Fault) → Get b p m r n → Deep m r → Work (Word b p) (Read b p) m r n

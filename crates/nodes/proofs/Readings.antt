@@ -17,8 +17,8 @@ pub child_read : (φ : Form) (b i a : ℕ) (m : Meaning) (v : ℕ) (n : Meaning)
 unfolding entry_at
 child_read φ b i a m v n e h = record { value = h.value ∙ ap (m.words b) e; same = h.same }
 
-pub block_read : (φ : Form) (b i : ℕ) (m : Meaning) (v c : ℕ) (n : Meaning) → c ≡ block_number v → Leads φ b i m v n → LeadsTo φ b i m c n
-block_read φ b i m v c n e h = record { value = e ∙ ap block_number h.value; same = h.same }
+pub block_read : (φ : Form) (b i j : ℕ) (m : Meaning) (v c : ℕ) (n : Meaning) → c ≡ block_number v → Leads φ b j m v n → j ≡ i → LeadsTo φ b i m c n
+block_read φ b i j m v c n e h d = record { value = e ∙ ap block_number h.value ∙ ap (λ z. block_number (entry_at φ (m.words b) z).child) d; same = h.same }
 
 -- one word more in the buffer
 pub read_more : (m u t : Meaning) (b p a j x : ℕ) (ws : List ℕ) → j < length ws → a ≡ p → ((y : ℕ) → y < j → get_or ws y 0 ≡ m.words b (p + y)) → u ≡ m → GetDone u b (a + j) x t → (y : ℕ) → y < j + 1 → get_or (set ws j x) y 0 ≡ m.words b (p + y)

@@ -1,6 +1,7 @@
 -- The halving search, and what it finds where the keys ascend.
-use Rattle.std.proofs.Common.{◌≡◌, ℕ, zero, suc, ◌+◌, ◌-◌, ◌<◌, ◌≤◌, List, [], ◌∷◌, map, length, get_or, Ordering, Less, Greater, sym, refl, ap, ◌∙◌, subst, ⊎_elim, arith}
+use Rattle.std.proofs.Common.{◌≡◌, ℕ, zero, suc, ◌+◌, ◌-◌, ◌<◌, ◌≤◌, List, [], ◌∷◌, map, length, get_or, Bool, true, ◌==◌, Ordering, Less, Greater, sym, refl, ap, ◌∙◌, subst, ⊎_elim, arith}
 use Rattle.std.specs.List.{AllByRecursion}
+use Rattle.std.specs.Ordering.{ordering_index}
 use Rattle.std.proofs.ByRecursion.{All-get_or, All-from_get_or}
 use Rattle.std.proofs.lemmas.Bool.{cases_order}
 use Rattle.keys.specs.Orders.{Orderly}
@@ -80,6 +81,10 @@ module _ {K : Type 0} (order : K → K → Ordering) (key : ℕ → K) (n : ℕ)
   between_met l m h =
       let e : high ≡ low = omega arith in
       record { within = omega (arith, h.within); last = h.last; next = λ x. ap (λ z. order (key z) q) (sym e) ∙ h.next (omega arith) }
+
+-- the test whether a comparison said 'greater'
+pub says_greater : {o : Ordering} {t : Bool} {k : ℕ} → t ≡ (ordering_index o == k) → k ≡ 2 → o ≡ Greater → t ≡ true
+says_greater e d g = e ∙ (λ z. ordering_index (g z) == d z)
 
 -- the key that was read is that of the words as the search began
 pub key_there : {K : Type 0} (φ : Form) (unpacked : List ℕ → K) (b i : ℕ) (l m n : Meaning) (x : K) → m ≡ l → Keyed φ unpacked b i m x n → x ≡ key_of φ unpacked (l.words b) i

@@ -1,4 +1,4 @@
-use Rattle.std.proofs.Common.{◌∙◌}
+use Rattle.std.proofs.Common.{◌∙◌, arith}
 use Rattle.copies.proofs.Exits.{raised, lost_later, kin_same}
 use Rattle.nodes.specs.Places.{form}
 use Rattle.nodes.proofs.Rooms.{room_same, countable}
@@ -81,6 +81,6 @@ returns g c h =
           let q = counted (form g.K.Key.width) _ _ _ _ _ n.same n.value p.mild in
           let s = b.call q in
           let r = cut_before _ _ _ _ _ _ _ (s.same ∙ n.same) (d.call (totalled _ _ _ _ _ _ _ q s)) in
-          halved g.K.Key.unpacked _ _ _ _ _ _ _ _ _ _ n.value (summed_before _ _ _ _ _ _ _ n.same s).value r c.if-cut-n.false (e.call (room_same _ _ _ _ r.same p.mild.node.room));
+          halved g.K.Key.unpacked _ _ _ _ _ _ _ _ _ _ _ _ n.value (summed_before _ _ _ _ _ _ _ n.same s).value r c.if-cut-n.false (omega arith) (omega arith) (e.call (room_same _ _ _ _ r.same p.mild.node.room));
       ready = e.ready;
     }

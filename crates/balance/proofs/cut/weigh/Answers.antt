@@ -7,7 +7,7 @@ use Rattle.balance.proofs.cut.weigh.Goals as goal
 pub returns-then-node-eq0 : goal.returns-then-node-eq0
 returns-then-node-eq0 g c = record {
   bound = omega arith;
-  weighs = λ h. record { call = weighed_leaf (form g.K.Key.width) _ _ _ _ c.if-node-eq0.true; ready = h };
+  weighs = λ h. record { call = weighed_leaf (form g.K.Key.width) _ _ _ _ _ c.if-node-eq0.true (omega arith); ready = h };
 }
 
 pub returns-in_err-weight : goal.returns-in_err-weight

@@ -1,4 +1,4 @@
-use Rattle.std.proofs.Common.{refl, ap, ◌∙◌}
+use Rattle.std.proofs.Common.{ap, ◌∙◌, arith}
 use Rattle.copies.proofs.Exits.{raised, lost_later, kin_same}
 use Rattle.nodes.specs.Places.{form, block_number}
 use Rattle.nodes.specs.Nodes.{entry_at}
@@ -29,22 +29,19 @@ returns-in_err-block g c =
           };
     })
 
-pub returns : goal.returns
-returns g c = record {
-  below = (refl, c.saturating_sub.ensures);
-  leads = λ h.
-      let a = c.in_ok-upto.ensures.finds h in
-      let e = c.in_ok-block.ensures a.ready in
-      record {
-        call = λ p.
-            let f = a.call p.node in
-            let x = e.call (room_same _ _ _ _ f.same p.node.room) in
-            record {
-              upto = c.in_ok-upto.upto;
-              found = record { same = x.same ∙ f.same; sought = f.sought; split = f.split };
-              place = c.saturating_sub-place.ensures;
-              child = x.value ∙ ap (λ m. block_number (entry_at (form g.K.Key.width) (m.words c.args.node.block) c.saturating_sub-place.result).child) f.same;
-            };
-        ready = e.ready;
-      };
-}
+pub returns-clause-leads : goal.returns-clause-leads
+returns-clause-leads g c h =
+    let a = c.in_ok-upto.ensures.finds h in
+    let e = c.in_ok-block.ensures a.ready in
+    record {
+      call = λ p.
+          let f = a.call p.node in
+          let x = e.call (room_same _ _ _ _ f.same p.node.room) in
+          record {
+            upto = c.in_ok-upto.upto;
+            found = record { same = x.same ∙ f.same; sought = f.sought; split = f.split };
+            place = omega (arith, c.saturating_sub-place.ensures);
+            child = x.value ∙ ap (λ m. block_number (entry_at (form g.K.Key.width) (m.words c.args.node.block) c.saturating_sub-place.result).child) f.same;
+          };
+      ready = e.ready;
+    }

@@ -5,7 +5,7 @@ use Rattle.copies.proofs.Exits.{raised, lost_later, kin_same, kin_edit, set_work
 use Rattle.copies.proofs.Edits.{edit_then}
 use Rattle.nodes.specs.Places.{form}
 use Rattle.nodes.specs.Nodes.{Joinable, Joined}
-use Rattle.nodes.proofs.Rooms.{room_edit, room_place, rooms_same, countable, countable_same, carry_same}
+use Rattle.nodes.proofs.Rooms.{room_edit, room_place, rooms_same, countable, countable_same, carry_at}
 use Rattle.nodes.proofs.Lists.{append_holds}
 use Rattle.nodes.proofs.edit.append_all.Goals as goal
 
@@ -58,7 +58,7 @@ returns g c h =
     let two = λ (p : Joinable φ from to m). b.call (countable_same k _ _ _ (one p).same (omega (arith, p.fits)) p.rooms.one) in
     let same = λ (p : Joinable φ from to m). (two p).same ∙ (one p).same in
     let more_is = λ (p : Joinable φ from to m). (two p).value ∙ ap (λ z. z.words from 1) (one p).same in
-    let three = λ (p : Joinable φ from to m). carry_same φ from 0 to kept more _ _ _ (same p) (d.call (rooms_same _ _ _ _ _ (same p) p.rooms)) in
+    let three = λ (p : Joinable φ from to m). carry_at φ from 0 to kept more _ _ _ (same p) (d.call (rooms_same _ _ _ _ _ (same p) p.rooms)) (omega arith) (omega arith) (omega arith) in
     record {
       call = work_on (Joinable φ from to) (Word to 1) (Joined φ from to) (Edited to (λ β. with_at β 1 (kept + more))) m _ _ _
           (λ p. room_place φ _ _ _ (omega arith) (room_edit _ _ _ _ _ _ (three p) p.rooms.other))

@@ -5,7 +5,7 @@ use Rattle.copies.proofs.Exits.{raised, lost_later, kin_same, kin_edit, set_work
 use Rattle.copies.proofs.Edits.{edit_then}
 use Rattle.nodes.specs.Places.{form}
 use Rattle.nodes.specs.Nodes.{Has, Changed, remove_at}
-use Rattle.nodes.proofs.Rooms.{room_edit, room_place, rooms_twice, countable, carry_same}
+use Rattle.nodes.proofs.Rooms.{room_edit, room_place, rooms_twice, countable, carry_at}
 use Rattle.nodes.proofs.Lists.{remove_holds}
 use Rattle.nodes.proofs.edit.remove_entry.Goals as goal
 
@@ -44,7 +44,7 @@ returns g c h =
     let a = c.in_ok-copy_entries.ensures r.ready in
     let e = c.set.ensures.keeps a.ready in
     let read = λ (p : Has φ b i m). r.call (countable k _ _ p.few p.room) in
-    let one = λ (p : Has φ b i m). carry_same φ b (i + 1) b i (n - (i + 1)) _ _ _ (read p).same (a.call (rooms_twice _ _ _ _ (read p).same p.room)) in
+    let one = λ (p : Has φ b i m). carry_at φ b (i + 1) b i (n - (i + 1)) _ _ _ (read p).same (a.call (rooms_twice _ _ _ _ (read p).same p.room)) (omega arith) (omega arith) (omega arith) in
     record {
       call = work_on (Has φ b i) (Word b 1) (Changed φ b (remove_at i)) (Edited b (λ β. with_at β 1 (n - 1))) m _ _ _
           (λ p. room_place φ _ _ _ (omega arith) (room_edit _ _ _ _ _ _ (one p) p.room))

@@ -1,3 +1,4 @@
+use Rattle.std.proofs.Common.{arith}
 use Rattle.copies.proofs.Exits.{raised}
 use Rattle.nodes.specs.Places.{form}
 use Rattle.nodes.proofs.Readings.{block_read}
@@ -12,4 +13,4 @@ returns-in_err-entry_child g c =
 pub returns : goal.returns
 returns g c h =
     let e = c.in_ok-entry_child.ensures h in
-    record { call = λ p. block_read (form g.K.Key.width) _ _ _ _ _ _ c.block_of.ensures (e.call p); ready = e.ready }
+    record { call = λ p. block_read (form g.K.Key.width) _ _ _ _ _ _ _ c.block_of.ensures (e.call p) (omega arith); ready = e.ready }

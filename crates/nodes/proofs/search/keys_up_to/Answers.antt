@@ -1,11 +1,9 @@
 use Rattle.std.proofs.Common.{◌+◌, ◌-◌, ◌/◌, sym, refl, ap, ◌∙◌, arith}
 use Rattle.std.proofs.lemmas.Bool.{both_ways}
-use Rattle.std.specs.Ordering.{is_gt}
-use Rattle.std.proofs.lemmas.Cmp.{is_gt_index}
 use Rattle.copies.proofs.Exits.{raised, lost_later, kin_same}
 use Rattle.nodes.specs.Places.{form}
 use Rattle.nodes.proofs.Rooms.{room_same, countable}
-use Rattle.nodes.proofs.Searches.{between_all, between_up, between_met, key_there, found}
+use Rattle.nodes.proofs.Searches.{between_all, between_up, between_met, says_greater, key_there, found}
 use Rattle.nodes.proofs.search.keys_up_to.Goals as goal
 
 pub loop-low-init : goal.loop-low-init
@@ -28,7 +26,7 @@ loop-low-preserved g c =
                 let s = i.call p e in
                 let x = k.call (room_same _ _ _ _ s.0 p) in
                 let is = key_there φ unpacked _ mid _ _ _ _ s.0 x in
-                (x.same ∙ s.0, between_up order _ _ q _ _ mid _ refl (λ y. both_ways _ c.if-eq.false (c.eq.ensures ∙ sym (is_gt_index _) ∙ ap is_gt (c.cmp.ensures ∙ ap (λ z. order z q) is ∙ y))) s.1);
+                (x.same ∙ s.0, between_up order _ _ q _ _ mid _ refl (λ y. both_ways _ c.if-eq.false (says_greater c.eq.ensures (omega arith) (c.cmp.ensures ∙ ap (λ z. order z q) is ∙ y))) s.1);
             ready = k.ready;
           },
     )
