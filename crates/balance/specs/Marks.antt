@@ -1,7 +1,8 @@
 -- The marks of an update, by level.
-use Rattle.std.specs.Prelude.{ℕ, zero, suc, List, ◌++◌, codes}
+use Rattle.std.specs.Prelude.{ℕ, zero, suc, List, ◌++◌}
 use Rattle.tree.specs.declared.mark.Mark.{Mark}
-use Rattle.tree.specs.declared.mark.Mark.TheVariants.{Nothing, Split, Merge, MergeSplit}
+use Rattle.tree.specs.declared.mark.Mark.TheVariants.{Nothing}
+use Rattle.tree.specs.Letters.{letter_of}
 use Rattle.balance.specs.declared.marks.Marks.{Marks}
 
 -- the mark at level j; there is none above level 4
@@ -12,13 +13,6 @@ mark_at marks (suc (suc zero)) = marks.level2
 mark_at marks (suc (suc (suc zero))) = marks.level3
 mark_at marks (suc (suc (suc (suc zero)))) = marks.level4
 mark_at marks (suc (suc (suc (suc (suc j))))) = Nothing
-
--- the letter that stands for a mark
-abbrev pub letter_of : Mark → List ℕ
-letter_of Nothing = codes "-"
-letter_of Split = codes "S"
-letter_of Merge = codes "M"
-letter_of MergeSplit = codes "B"
 
 -- a letter for each level, the leaves first
 abbrev pub letters : Marks → List ℕ

@@ -1,13 +1,13 @@
 // What an accepted update did at each level.
 ghost use Rattle.std.specs.Prelude.{◌≡◌, ℕ, ◌≤◌, if◌then◌else◌, nat_eq, Some};
 ghost use Rattle.tree.specs.declared.mark.Mark.TheVariants.{Nothing};
-ghost use Rattle.balance.specs.Marks.{mark_at, letter_of, letters};
+ghost use Rattle.balance.specs.Marks.{mark_at, letters};
 
 use std::fmt;
 use tree::mark::Mark;
 
-// A mark for each level, the leaves first.
-// five fields: each level's mark is read by its name, and a tree has no more levels
+// A mark for each level, the leaves first. Five fields and no array: each level's mark is read by its name, as the rules
+// of the interface want it, and a tree has no more levels.
 #[derive(Clone, Copy, PartialEq, Eq, Debug)]
 pub struct Marks {
     pub level0: Mark,
@@ -47,18 +47,6 @@ impl Marks {
     }
 }
 
-// The letter that stands for a mark.
-fn letter(mark: Mark) -> &'static str
-    ensures { result.now ≡ letter_of mark }
-{
-    match mark {
-        Mark::Nothing => "-",
-        Mark::Split => "S",
-        Mark::Merge => "M",
-        Mark::MergeSplit => "B",
-    }
-}
-
 // Five letters, the leaves first.
 impl fmt::Display for Marks {
     ghost output = { λ m. Some (letters m) };
@@ -67,11 +55,7 @@ impl fmt::Display for Marks {
         write!(
             f,
             "{}{}{}{}{}",
-            letter(self.level0),
-            letter(self.level1),
-            letter(self.level2),
-            letter(self.level3),
-            letter(self.level4)
+            self.level0, self.level1, self.level2, self.level3, self.level4
         )
     }
 }

@@ -8,13 +8,14 @@ mod piles;
 use cache::cached::Cache;
 use cache::line::LineTable;
 use call::Call;
-use paged::paged::PagedStore;
+use paged::paged::{Frames, PagedStore};
 use parse::parse;
 use piles::{Pile, answers};
 use quota::quota::Quota;
 use std::alloc::{AllocError, Global};
 use std::io::Read;
-use stores::table::TableStore;
+use stores::lent::Runs;
+use stores::table::{Rows, TableStore};
 
 const BLOCKS: usize = 40;
 
@@ -96,7 +97,12 @@ fn no_cache(heap: Global) -> Result<String, AllocError> {
 fn over_table(heap: Global, layers: Layers, calls: &[Call]) -> Result<String, AllocError> {
     let mut words = vec![in heap; 7u64; BLOCKS * WIDTH]?;
     let mut marks = vec![in heap; 1u8; BLOCKS + 3]?;
-    match TableStore::fresh(&mut words, &mut marks, WIDTH as u32) {
+    let runs = Runs {
+        words: &mut words,
+        marks: &mut marks,
+        layout: Rows,
+    };
+    match TableStore::fresh(runs, WIDTH as u32) {
         Ok(store) => over(heap, layers, store, calls),
         Err(_) => String::from_str(heap, "misfit\n"),
     }
@@ -107,7 +113,12 @@ fn over_pages(heap: Global, layers: Layers, calls: &[Call]) -> Result<String, Al
     let mut words = vec![in heap; 7u64; FRAMES * 64]?;
     let mut marks = vec![in heap; 1u8; BLOCKS]?;
     let map: Vec<u32> = (0..FRAMES as u32).rev().collect(heap)?;
-    match PagedStore::fresh(heap, &mut words, &mut marks, &map, WIDTH as u32) {
+    let runs = Runs {
+        words: &mut words,
+        marks: &mut marks,
+        layout: Frames { map: &map, heap },
+    };
+    match PagedStore::fresh(runs, WIDTH as u32) {
         Ok(store) => over(heap, layers, store, calls),
         Err(_) => String::from_str(heap, "misfit\n"),
     }

@@ -12,6 +12,8 @@ pub(crate) trait Pile: Store {
     fn take_apart(self, session: &mut Session) -> Result<(), AllocError>;
 }
 
+// Two impls and not one for every layout: the borrow checker does not cover a store of a layout by value yet, beside the
+// session's reference.
 impl Pile for TableStore<'_> {
     fn take_apart(self, _session: &mut Session) -> Result<(), AllocError> {
         Ok(())
