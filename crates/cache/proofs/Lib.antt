@@ -8,3 +8,4 @@ pub mod Evicts
 pub mod Fetches
 pub mod Services
 pub mod Closings
+pub mod Ages

@@ -1,12 +1,12 @@
 -- What a table of cache lines holds and answers.
-use Rattle.std.specs.Prelude.{◌≡◌, ℕ, ◌<◌, ◌≤◌, Bool, true, false, not, ◌&&◌, List, [], map, length, Some, None, Ok, Err, vec_items, vec_len, Option, Result, ◌==◌, ◌≢◌, slice_index_or, slice_set}
+use Rattle.std.specs.Prelude.{◌≡◌, ℕ, ◌<◌, ◌≤◌, Bool, true, false, not, ◌&&◌, List, [], map, length, Some, None, Ok, Err, vec_items, vec_len, Option, Result, ◌==◌, ◌≢◌, nat_lt, slice_index_or, slice_set}
 use Rattle.store.specs.declared.fault.Fault.{Fault}
 use Rattle.store.specs.declared.fault.Refusal.TheVariants.{Down, Misfit}
 use Rattle.store.specs.Faults.{own_fault}
 use Rattle.cache.specs.declared.line.Line.{Line}
 use Rattle.cache.specs.declared.line.LineTable.{LineTable}
-use Rattle.cache.specs.declared.table.Unmade.{Unmade}
-use Rattle.cache.specs.declared.table.Unmade.TheVariants.{Refused, NoMemory}
+use Rattle.store.specs.declared.fault.Unmade.{Unmade}
+use Rattle.store.specs.declared.fault.Unmade.TheVariants.{Refused, NoMemory}
 
 -- a block number, 0 for none; whether its words were set since they were last written below; and the words
 pub record View : Type 0 where
@@ -80,6 +80,10 @@ Hits lost vs b place None = lost ≡ false → (b ≢ 0) → (k : ℕ) → (nth 
 abbrev pub Finds : List View → ℕ → Option ℕ → Type 0
 Finds vs b (Some i) = (i < length vs) × ((nth vs i).block ≡ b)
 Finds vs b None = (b ≢ 0) → (k : ℕ) → (nth vs k).block ≡ b → ⊥
+
+-- whether a line has the word at a place of block b
+abbrev pub has : View → ℕ → ℕ → Bool
+has v b place = v.block == b && nat_lt place (length v.words)
 
 -- a line with one word set
 abbrev pub set_view : View → ℕ → ℕ → View

@@ -1,10 +1,12 @@
 -- What the steps of a cache answer, and what they leave.
-use Rattle.std.specs.Prelude.{◌≡◌, ℕ, ◌<◌, ◌≤◌, Bool, true, false, cond, List, length, Some, None, Ok, Err, Option, Result, ◌≢◌, slice_index}
+use Rattle.std.specs.Prelude.{◌≡◌, ℕ, ◌<◌, ◌≤◌, Bool, true, false, cond, List, length, Ok, Err, Result, ◌≢◌, slice_index}
 use Rattle.store.specs.declared.fault.Fault.{Fault}
 use Rattle.store.specs.declared.fault.Refusal.TheVariants.{Down}
 use Rattle.store.specs.Meaning.{Meaning, Fell, count, with_block}
 use Rattle.store.specs.Faults.{one_deeper}
-use Rattle.store.specs.Calls.{WordFails, Deep, Told}
+use Rattle.store.specs.Calls.{WordFails, Deep, Told, Left}
+use Rattle.store.specs.declared.fault.Refused.{Refused}
+use Rattle.cache.specs.declared.cached.Cache.{Cache}
 use Rattle.cache.specs.declared.line.LineTable.{LineTable}
 use Rattle.cache.specs.Lines.{View, nth, table_views, ages, goes, Hit}
 use Rattle.cache.specs.Cache.{word_of, cached, flat, Whole, Held}
@@ -75,13 +77,17 @@ pub record Worked (P R H : Type 0) : Type 0 where
   pub ready : R
   pub held : H
 
--- work on the store s and the table t that leaves s' and t': where they were ready and `Pre` held, `Rel` holds of their meanings
-abbrev pub Works : {S : Type 0} → (S → Meaning) → (S → Type 0) → (Meaning → List View → Type 0) → (Meaning → List View → Meaning → List View → Type 0) → S → LineTable → S → LineTable → Type 0
-Works meaning ready Pre Rel s t s' t' =
-    ready s
-    → Held (meaning s) t.lost (table_views t)
-    → Pre (meaning s) (table_views t)
-    → Worked (Rel (meaning s) (table_views t) (meaning s') (table_views t')) (ready s') (Held (meaning s') t'.lost (table_views t'))
+-- the store below a cache and the lines of the cache are ready for a call
+abbrev pub Ready : {S : Type 0} → (S → Meaning) → (S → Type 0) → Cache S → Type 0
+Ready meaning ready c = ready c.store × Held (meaning c.store) c.table.lost (table_views c.table)
+
+-- work on the cache c that leaves d: where c was ready and `Pre` held, `Rel` holds of their meanings
+abbrev pub Works : {S : Type 0} → (S → Meaning) → (S → Type 0) → (Meaning → List View → Type 0) → (Meaning → List View → Meaning → List View → Type 0) → Cache S → Cache S → Type 0
+Works meaning ready Pre Rel c d =
+    ready c.store
+    → Held (meaning c.store) c.table.lost (table_views c.table)
+    → Pre (meaning c.store) (table_views c.table)
+    → Worked (Rel (meaning c.store) (table_views c.table) (meaning d.store) (table_views d.table)) (ready d.store) (Held (meaning d.store) d.table.lost (table_views d.table))
 
 -- the store below is up
 abbrev pub Up : Meaning → List View → Type 0
@@ -166,14 +172,14 @@ pub record Opened (m : Meaning) (t : LineTable) : Type 0 where
   pub held : Held m t.lost (table_views t)
   pub same : flat (table_views t) m ≡ m
 
--- a store call on a cache with the table t over s, which answers r and leaves s' and t'
-abbrev pub Serves : {S A : Type 0} → (S → Meaning) → (S → Type 0) → (Meaning → Result A Fault → Meaning → Type 0) → S → LineTable → Result A Fault → S → LineTable → Type 0
-Serves meaning ready Rel s t r s' t' =
-    ready s × Held (meaning s) t.lost (table_views t)
+-- a store call on the cache c, which answers r and leaves d
+abbrev pub Serves : {S A : Type 0} → (S → Meaning) → (S → Type 0) → (Meaning → Result A Fault → Meaning → Type 0) → Cache S → Result A Fault → Cache S → Type 0
+Serves meaning ready Rel c r d =
+    Ready meaning ready c
     → Told
-    (Rel (cached (table_views t) (meaning s)) r (cached (table_views t') (meaning s')))
-    (Deep (cached (table_views t) (meaning s)) r)
-    (ready s' × Held (meaning s') t'.lost (table_views t'))
+    (Rel (cached (table_views c.table) (meaning c.store)) r (cached (table_views d.table) (meaning d.store)))
+    (Deep (cached (table_views c.table) (meaning c.store)) r)
+    (Ready meaning ready d)
 
 -- a store that a cache lost says so again; one that it did not lose is left alone
 abbrev pub Heard : Bool → Meaning → Result (Unit {0}) Fault → Meaning → Type 0
@@ -186,7 +192,12 @@ pub record CloseFails (f : Fault) (m n : Meaning) : Type 0 where
   pub deep : f.depth ≡ one_deeper (m.shape.depth f.refusal (count m))
   pub fell : Fell m n
 
--- closing a cache with the lines vs over m leaves n: where no fault was met, n has every word of the cache
-abbrev pub Closes : List View → Meaning → Option Fault → Meaning → Type 0
-Closes vs m None n = n ≡ flat vs m
-Closes vs m (Some f) n = CloseFails f m n
+-- writing every line of vs into m leaves n: where no fault was met, n has every word of the cache
+abbrev pub Flushed : List View → Meaning → Result (Unit {0}) Fault → Meaning → Type 0
+Flushed vs m (Ok _) n = n ≡ flat vs m
+Flushed vs m (Err f) n = CloseFails f m n
+
+-- closing the cache c yields the store below: where no fault was met, it has every word of the cache
+abbrev pub Closes : {S : Type 0} → (S → Meaning) → (S → Type 0) → Cache S → Result S (Refused Fault S) → Type 0
+Closes meaning ready c (Ok s) = Left (meaning s ≡ flat (table_views c.table) (meaning c.store)) (ready s)
+Closes meaning ready c (Err r) = Left (CloseFails r.cause (meaning c.store) (meaning r.back)) (ready r.back)

@@ -1,9 +1,6 @@
 // The lines of a cache.
 ghost use Rattle.std.specs.Prelude.{◌≤◌, vec_len, vec_capacity};
 
-// The words of the largest block.
-pub(crate) const WIDEST: u32 = 512;
-
 // A block, 0 for none, and its words; whether they were set since they were last written below; when it was last used.
 #[derive(Drop)]
 pub struct Line {

@@ -3,16 +3,16 @@ ghost use Rattle.store.specs.Calls.{Leaves};
 ghost use Rattle.cache.specs.Lines.{view};
 ghost use Rattle.cache.specs.Steps.{Spilled, Emptied, Filled, Heard};
 
-use crate::line::{Line, WIDEST};
-use store::blocks::Store;
+use crate::line::Line;
+use store::blocks::{Store, WIDEST};
 use store::fault::Fault;
 
 // Writes the words of a line into its block below.
 fn spill<S: Store>(store: &mut S, line: &Line) -> Result<(), Fault>
     ensures { Leaves S.meaning S.ready (Spilled (view line.now)) store.old result store.new }
 {
-    for i in 0..line.words.len() as u32 {
-        store.set(line.block, i, line.words[i as usize])?;
+    for (i, word) in line.words.iter().enumerate() {
+        store.set(line.block, i as u32, *word)?;
     }
     Ok(())
 }
@@ -24,9 +24,7 @@ pub(crate) fn empty<S: Store>(store: &mut S, line: &mut Line) -> Result<(), Faul
     if line.goes() {
         spill(store, line)?;
     }
-    line.block = 0;
-    line.changed = false;
-    line.used = 0;
+    line.clear();
     Ok(())
 }
 

@@ -1,31 +1,12 @@
 // What a table of lines does by itself.
-ghost use Rattle.std.specs.Prelude.{◌≡◌, ℕ, ◌<◌, ◌≤◌, vec_len, slice_index, slice_index_or, slice_set};
-ghost use Rattle.std.specs.Borrow.{sem, follows};
-ghost use Rattle.std.specs.Vec.{with_item};
+ghost use Rattle.std.specs.Prelude.{◌≡◌, ℕ, ◌<◌, ◌≤◌, vec_len, slice_index, slice_set};
 ghost use Rattle.store.specs.Layers.{raised};
-ghost use Rattle.cache.specs.Lines.{view, nth, table_views, ages, Made, Hits, Finds, Noted, set_view, free_view, goes};
-ghost use Rattle.cache.specs.declared.table.Unmade.TheVariants.{NoMemory};
-ghost use Rattle.cache.specs.contracts.line.LineTable.{the_row};
-ghost use Rattle.cache.specs.contracts.line.Line.{the_row as line_row};
+ghost use Rattle.cache.specs.Lines.{view, nth, table_views, ages, Made, Hits, Finds, Noted, has, set_view, free_view, goes};
 
-use crate::line::{Line, LineTable, WIDEST};
-use std::alloc::{AllocError, Global};
-use store::fault::{Fault, Refusal};
-
-// Why no table was made.
-#[derive(Clone, Copy, PartialEq, Eq, Debug)]
-pub enum Unmade {
-    Refused(Fault),
-    NoMemory,
-}
-
-impl From<AllocError> for Unmade {
-    ghost from_gives = { λ _ r. r ≡ NoMemory };
-
-    fn from(_: AllocError) -> Unmade {
-        Unmade::NoMemory
-    }
-}
+use crate::line::{Line, LineTable};
+use std::alloc::Global;
+use store::blocks::WIDEST;
+use store::fault::{Fault, Refusal, Unmade};
 
 impl Line {
     // Whether it has words that the store below has not.
@@ -35,15 +16,38 @@ impl Line {
         self.block != 0 && self.changed
     }
 
+    // Whether it has the word at a place of a block.
+    pub(crate) fn has(&self, block: u32, place: u32) -> bool
+        ensures { result ≡ has (view self.now) block place }
+    {
+        self.block == block && (place as usize) < self.words.len()
+    }
+
+    // The word at a place; past its words, 0.
+    pub(crate) fn word(&self, place: u32) -> u64
+        ensures { result ≡ slice_index (view self.now).words place }
+    {
+        self.words.get(place as usize).copied().unwrap_or(0)
+    }
+
     // Sets the word at a place, if there is one, and marks the line as changed.
     pub(crate) fn put(&mut self, place: u32, word: u64)
         ensures view { view self.new ≡ set_view (view self.old) place word }
         ensures used { self.new.used ≡ self.old.used }
     {
         self.changed = true;
-        if (place as usize) < self.words.len() {
-            self.words[place as usize] = word;
+        if let Some(at) = self.words.get_mut(place as usize) {
+            *at = word;
         }
+    }
+
+    // Takes the block from it.
+    pub(crate) fn clear(&mut self)
+        ensures { view self.new ≡ free_view (view self.old) }
+    {
+        self.block = 0;
+        self.changed = false;
+        self.used = 0;
     }
 }
 
@@ -53,7 +57,7 @@ impl LineTable {
         ensures { Made lines result }
     {
         if lines == 0 || lines > 16 {
-            return Err(Unmade::Refused(Fault::own(Refusal::Misfit, 0)));
+            return Err(Fault::own(Refusal::Misfit, 0).into());
         }
         let mut made = Vec::with_capacity(heap, lines as usize)?;
         for _ in 0..lines {
@@ -72,15 +76,6 @@ impl LineTable {
         })
     }
 
-    // One line, to be marked.
-    pub(crate) fn at(&mut self, i: usize) -> &mut Line
-        requires { i < vec_len self.old.lines }
-        ensures* lent { sem 𝓛 (follows the_row line_row self.entry.ghost_name result.ghost_name (λ w. record { lines = with_item self.old.lines i w; clock = self.old.clock; lost = self.old.lost; some = self.old.some; few = self.old.few })) }
-        ensures value { result.now ≡ slice_index_or self.old.lines.items i result.now }
-    {
-        &mut self.lines[i]
-    }
-
     // The line that has this word, unless the store below is down.
     pub(crate) fn hit(&self, block: u32, place: u32) -> Option<usize>
         ensures { Hits self.now.lost (table_views self.now) block place result }
@@ -88,25 +83,14 @@ impl LineTable {
         if self.lost || block == 0 {
             return None;
         }
-        for i in 0..self.lines.len() {
-            let line = &self.lines[i];
-            if line.block == block && (place as usize) < line.words.len() {
-                return Some(i);
-            }
-        }
-        None
+        self.lines.iter().position(|line| line.has(block, place))
     }
 
     // The first line that has this block.
     pub(crate) fn find(&self, block: u32) -> Option<usize>
         ensures { Finds (table_views self.now) block result }
     {
-        for i in 0..self.lines.len() {
-            if self.lines[i].block == block {
-                return Some(i);
-            }
-        }
-        None
+        self.lines.iter().position(|line| line.block == block)
     }
 
     // The line that was longest unused.
@@ -114,13 +98,11 @@ impl LineTable {
         ensures within { result < vec_len self.now.lines }
         ensures least { (k : ℕ) → k < vec_len self.now.lines → slice_index (ages self.now) result ≤ slice_index (ages self.now) k }
     {
-        let mut best = 0;
-        for i in 0..self.lines.len() {
-            if self.lines[i].used < self.lines[best].used {
-                best = i;
-            }
-        }
-        best
+        self.lines
+            .iter()
+            .enumerate()
+            .min_by_key(|(_, line)| line.used)
+            .map_or(0, |(i, _)| i)
     }
 
     // Marks a line as used now.
@@ -132,44 +114,7 @@ impl LineTable {
         ensures clock { ages self.new ≡ slice_set (ages self.old) i self.new.clock }
     {
         self.clock = self.clock.saturating_add(1);
-        let now = self.clock;
-        self.at(i).used = now;
-    }
-
-    // The word at a place of a line; past its words, 0.
-    pub(crate) fn read(&self, i: usize, place: u32) -> u64
-        requires { i < vec_len self.now.lines }
-        ensures { result ≡ slice_index (nth (table_views self.now) i).words place }
-    {
-        let line = &self.lines[i];
-        if (place as usize) < line.words.len() {
-            line.words[place as usize]
-        } else {
-            0
-        }
-    }
-
-    // Sets the word at a place of a line, and marks the line as changed.
-    pub(crate) fn write(&mut self, i: usize, place: u32, word: u64)
-        requires { i < vec_len self.old.lines }
-        ensures lost { self.new.lost ≡ self.old.lost }
-        ensures clock { self.new.clock ≡ self.old.clock }
-        ensures ages { ages self.new ≡ ages self.old }
-        ensures views { table_views self.new ≡ slice_set (table_views self.old) i (set_view (nth (table_views self.old) i) place word) }
-    {
-        self.at(i).put(place, word);
-    }
-
-    // Takes the block from a line.
-    pub(crate) fn free(&mut self, i: usize)
-        requires { i < vec_len self.old.lines }
-        ensures lost { self.new.lost ≡ self.old.lost }
-        ensures views { table_views self.new ≡ slice_set (table_views self.old) i (free_view (nth (table_views self.old) i)) }
-    {
-        let line = self.at(i);
-        line.block = 0;
-        line.changed = false;
-        line.used = 0;
+        self.lines[i].used = self.clock;
     }
 
     // What the store below answered, as the cache answers; 'down' is kept in mind.
@@ -178,17 +123,9 @@ impl LineTable {
         ensures lines { self.new.lines ≡ self.old.lines }
         ensures lost { Noted self.old.lost r self.new.lost }
     {
-        match r {
-            Ok(x) => Ok(x),
-            Err(f) => {
-                match f.refusal {
-                    Refusal::Down => {
-                        self.lost = true;
-                    }
-                    _ => {}
-                }
-                Err(f.deeper())
-            }
+        if r.as_ref().is_err_and(|f| f.refusal == Refusal::Down) {
+            self.lost = true;
         }
+        r.map_err(Fault::deeper)
     }
 }

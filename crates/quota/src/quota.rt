@@ -1,6 +1,5 @@
 // A quota on the blocks of any store: once so many are granted, it takes no more.
 ghost use Rattle.std.specs.Prelude.{◌≡◌};
-ghost use Rattle.store.specs.Layers.{raised};
 ghost use Rattle.quota.specs.Quota.{under};
 ghost use Rattle.quota.specs.Laws.{under_sound};
 
@@ -30,16 +29,6 @@ impl<S: Store> Quota<S> {
     }
 }
 
-// What the store below answered, as the layer above it answers.
-fn raise<T>(r: Result<T, Fault>) -> Result<T, Fault>
-    ensures { result ≡ raised r }
-{
-    match r {
-        Ok(x) => Ok(x),
-        Err(f) => Err(f.deeper()),
-    }
-}
-
 impl<S: Store> Store for Quota<S> {
     ghost meaning = { λ s. under s.limit (S.Store.meaning s.store) };
 
@@ -48,31 +37,30 @@ impl<S: Store> Store for Quota<S> {
     ghost sound = { λ s r. under_sound s.limit (S.Store.sound s.store r) };
 
     fn take(&mut self) -> Result<u32, Fault> {
-        let stock = raise(self.store.stock())?;
-        if stock.granted as u64 >= self.limit {
+        let stock = self.store.stock().map_err(Fault::deeper)?;
+        if u64::from(stock.granted) >= self.limit {
             return Err(Fault::own(Refusal::NoRoom, 0));
         }
-        raise(self.store.take())
+        self.store.take().map_err(Fault::deeper)
     }
 
     fn give_back(&mut self, block: u32) -> Result<(), Fault> {
-        raise(self.store.give_back(block))
+        self.store.give_back(block).map_err(Fault::deeper)
     }
 
     fn get(&mut self, block: u32, place: u32) -> Result<u64, Fault> {
-        raise(self.store.get(block, place))
+        self.store.get(block, place).map_err(Fault::deeper)
     }
 
     fn set(&mut self, block: u32, place: u32, word: u64) -> Result<(), Fault> {
-        raise(self.store.set(block, place, word))
+        self.store.set(block, place, word).map_err(Fault::deeper)
     }
 
     fn stock(&mut self) -> Result<Stock, Fault> {
-        let stock = raise(self.store.stock())?;
+        let stock = self.store.stock().map_err(Fault::deeper)?;
         Ok(Stock {
-            width: stock.width,
-            granted: stock.granted,
-            capacity: (stock.capacity as u64).min(self.limit) as u32,
+            capacity: u64::from(stock.capacity).min(self.limit) as u32,
+            ..stock
         })
     }
 }

@@ -1,5 +1,4 @@
-use Rattle.std.proofs.Common.{◌∙◌, arith}
-use Rattle.std.proofs.lemmas.List.{get_or_read}
+use Rattle.std.proofs.Common.{get_or, ap, ◌∙◌, arith}
 use Rattle.cache.proofs.Exits.{at_exit}
 use Rattle.cache.proofs.Parts.{part_none, part_more, part_all, part_exit}
 use Rattle.cache.proofs.moves.spill.Goals as goal
@@ -16,7 +15,7 @@ returns-in_err-set g c =
     let i = c.loop-i.invariant r in
     let e = c.in_err-set.ensures.keeps i.0 in
     record {
-      call = λ w. part_exit m l.words.items w.granted (omega (arith, w.wide, l.words.ok.0, c.len-i-end.ensures, c.loop-i-test.true)) (i.1 w) e.call e.deep;
+      call = λ w. part_exit m l.words.items w.granted (omega (arith, w.wide, l.words.ok.0, c.loop-i-test.true)) (i.1 w) e.call e.deep;
       ready = e.ready;
     })
 
@@ -26,7 +25,7 @@ loop-i-preserved g c r =
     let m = g.S.Store.meaning c.args.store.now in
     let i = c.loop-i.invariant r in
     let e = c.in_ok-set.ensures.keeps i.0 in
-    (e.ready, λ w. part_more m l.words.items (i.1 w) (get_or_read l.words.items c.loop-i.i c.index.result.now (omega (arith, l.words.ok.0, c.len-i-end.ensures, c.loop-i-test.true)) c.index.ensures 0) e.call)
+    (e.ready, λ w. part_more m l.words.items (i.1 w) (ap (λ ws. get_or ws c.loop-i.i 0) c.deref-word-items.ensures.value) e.call)
 
 pub returns : goal.returns
 returns g c r =
@@ -34,6 +33,6 @@ returns g c r =
     let i = c.loop-i.invariant r in
     let s = g.S.Store.sound c.args.store.now r in
     record {
-      call = λ w. i.1 w ∙ part_all l.block l.words.items c.loop-i.i s w.wide (omega (arith, l.words.ok.0, c.len-i-end.ensures, c.loop-i-test.false, c.loop-i.auto.i-end));
+      call = λ w. i.1 w ∙ part_all l.block l.words.items c.loop-i.i s w.wide (omega (arith, l.words.ok.0, c.loop-i-test.false));
       ready = i.0;
     }

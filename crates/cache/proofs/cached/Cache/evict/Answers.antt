@@ -17,7 +17,7 @@ returns-in_err-note g c =
     let n = g.S.Store.meaning c.empty-out.new.store in
     let w = view c.empty-out.new.line in
     let e = length-map t.lines.items view in
-    let v = view_at t.lines.items i c.at.result.now (omega (arith, t.lines.ok.0, c.oldest-i.ensures.within)) c.at.ensures.value in
+    let v = view_at t.lines.items i c.index_mut.result.now (omega (arith, t.lines.ok.0, c.oldest-i.ensures.within)) c.index_mut.ensures.value in
     let l : i < length vs = omega (arith, t.lines.ok.0, c.oldest-i.ensures.within) in
     let ve : table_views c.note.new.self ≡ set vs i w = ap (λ x. views x.items) c.note.ensures.lines ∙ views_set t.lines.items i c.empty-out.new.line in
     rw (at_exit _ _ c.from_residual.ensures)
@@ -45,7 +45,7 @@ returns g c =
     let n = g.S.Store.meaning c.empty-out.new.store in
     let w = view c.empty-out.new.line in
     let e = length-map t.lines.items view in
-    let v = view_at t.lines.items i c.at.result.now (omega (arith, t.lines.ok.0, c.oldest-i.ensures.within)) c.at.ensures.value in
+    let v = view_at t.lines.items i c.index_mut.result.now (omega (arith, t.lines.ok.0, c.oldest-i.ensures.within)) c.index_mut.ensures.value in
     let l : i < length vs = omega (arith, t.lines.ok.0, c.oldest-i.ensures.within) in
     let ve : table_views c.note.new.self ≡ set vs i w = ap (λ x. views x.items) c.note.ensures.lines ∙ views_set t.lines.items i c.empty-out.new.line in
     let a = length-map t.lines.items (λ l. l.used) in

@@ -1,48 +1,12 @@
-use Rattle.std.proofs.Common.{◌≡◌, sym, refl, ap, subst, arith}
-use Rattle.std.proofs.lemmas.List.{length-map}
-use Rattle.cache.specs.Lines.{view, views, table_views}
+use Rattle.std.proofs.Common.{◌≡◌, sym, ap, subst}
+use Rattle.cache.specs.Lines.{views, table_views}
 use Rattle.cache.specs.Cache.{Held}
-use Rattle.cache.specs.Steps.{FetchFails, Brought, Missing}
-use Rattle.cache.proofs.Exits.{at_exit}
-use Rattle.cache.proofs.Fetches.{found, not_missed, first_err, first_ok, fetched}
+use Rattle.cache.specs.Steps.{Brought, Missing}
+use Rattle.cache.proofs.Fetches.{first_ok, fetched}
 use Rattle.cache.proofs.cached.Cache.fetch.Goals as goal
 
-pub returns-in-Some : goal.returns-in-Some
-returns-in-Some g c =
-    let t = c.args.self.now.table in
-    let h = c.in-Some.ensures in
-    record {
-      within = omega (arith, h.line, t.lines.ok.0, length-map t.lines.items view);
-      hit = λ _. refl;
-      works = λ r k _. record { call = found _ _ _ h k; ready = r; held = k };
-    }
-
-pub returns-in_err-note : goal.returns-in_err-note
-returns-in_err-note g c =
-    let s = c.args.self.now in
-    let b = c.args.block in
-    let place = c.args.place in
-    let m = g.S.Store.meaning s.store in
-    let n = g.S.Store.meaning c.get-first.new.self in
-    let vs = table_views s.table in
-    let x = c.in_err-note.field-0.0 in
-    let ve : table_views c.note.new.self ≡ vs = ap (λ l. views l.items) c.note.ensures.lines in
-    rw (at_exit _ _ c.from_residual.ensures)
-    (record {
-      within = tt;
-      hit = λ p. absurd (not_missed b place p c.in_default.ensures);
-      works = λ r h _.
-          let e = c.get-first.ensures.keeps r in
-          let all = first_err b place c.get-first.result e.call c.note.ensures.lost h e.deep c.in_err-note.ensures.answer in
-          record {
-            call = subst (λ us. FetchFails b place x m vs n us) (sym ve) all.0;
-            ready = e.ready;
-            held = subst (Held n c.note.new.self.lost) (sym ve) all.1;
-          };
-    })
-
-pub returns : goal.returns
-returns g c =
+pub returns-clause-works : goal.returns-clause-works
+returns-clause-works g c r h _ =
     let s = c.args.self.now in
     let b = c.args.block in
     let place = c.args.place in
@@ -51,18 +15,13 @@ returns g c =
     let vs = table_views s.table in
     let ws = table_views c.bring.new.self.table in
     let ve : table_views c.note.new.self ≡ vs = ap (λ l. views l.items) c.note.ensures.lines in
+    let law = g.S.Store.sound s.store r in
+    let e = c.get-first.ensures.keeps r in
+    let f = first_ok b place c.get-first.result law.none_at_zero c.in_ok-note.ensures.answer e.call c.note.ensures.lost h c.in_default.ensures in
+    let d = c.bring.ensures.works e.ready (subst (Held n c.note.new.self.lost) (sym ve) f.held) (subst (Missing b n) (sym ve) f.missing) in
+    let law₂ = g.S.Store.sound c.get-first.new.self e.ready in
     record {
-      within = c.bring.ensures.within;
-      hit = λ p. absurd (not_missed b place p c.in_default.ensures);
-      works = λ r h _.
-          let law = g.S.Store.sound s.store r in
-          let e = c.get-first.ensures.keeps r in
-          let f = first_ok b place c.get-first.result law.none_at_zero c.in_ok-note.ensures.answer e.call c.note.ensures.lost h c.in_default.ensures in
-          let d = c.bring.ensures.works e.ready (subst (Held n c.note.new.self.lost) (sym ve) f.held) (subst (Missing b n) (sym ve) f.missing) in
-          let law₂ = g.S.Store.sound c.get-first.new.self e.ready in
-          record {
-            call = fetched b place c.bring.result law₂.none_at_zero f (subst (λ us. Brought b c.bring.result n us k ws) ve d.call) d.held;
-            ready = d.ready;
-            held = d.held;
-          };
+      call = fetched b place c.bring.result law₂.none_at_zero f (subst (λ us. Brought b c.bring.result n us k ws) ve d.call) d.held;
+      ready = d.ready;
+      held = d.held;
     }

@@ -1,7 +1,0 @@
-use Rattle.std.proofs.Common.{◌≡◌, ℕ, ◌<◌, ◌≤◌, length}
-use Rattle.cache.specs.Lines.{nth}
-use Rattle.cache.specs.Lines.{table_views}
-use Rattle.cache.proofs.line.LineTable.hit.Given as goal
-
-abbrev pub invariant-loop-i : goal.invariant-loop-i
-invariant-loop-i l = (k : ℕ) → k < l.i → (nth (table_views l.self) k).block ≡ l.block → length (nth (table_views l.self) k).words ≤ l.place
