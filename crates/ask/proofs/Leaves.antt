@@ -142,12 +142,12 @@ module _ {K : Type 0} (κ : Kind K) (law : Lawful κ) where
   pub floor_whole : (m : Meaning) (l b : ℕ) (k : K) → Sits κ index_unit m l b → floor_down κ.order l k (node κ m.words l b) ≡ floor κ.order k (pairs_in κ m.words l b)
   floor_whole m l b k s = flat_floor law.ordered index_unit units l k (node κ m.words l b) s.kids s.fits s.ascending
 
-  pub below_child : (m n : Meaning) (l b j c : ℕ) (k : K) (w : Way) → Below κ m l b k (suc j) c → Led κ.form κ.order κ.unpacked c k m w n → Below κ m l b k j w.child
+  pub below_child : (m n : Meaning) (l b j c : ℕ) (k : K) (w : Way) → Below κ m l b k (suc j) c → Led κ.form κ.order κ.unpacked c k m w n → Below κ m l b k j w.child.block
   below_child m n l b j c k w d led =
       let h = child κ law index_unit units m n j c k w d.sits led in
       record {
         sits = h.sits;
-        floors = sym (floor_whole m j w.child k h.sits) ∙ sym (h.routed.floor_is ∙ ap (floor_down κ.order j k) h.is) ∙ floor_whole m (suc j) c k d.sits ∙ d.floors;
+        floors = sym (floor_whole m j w.child.block k h.sits) ∙ sym (h.routed.floor_is ∙ ap (floor_down κ.order j k) h.is) ∙ floor_whole m (suc j) c k d.sits ∙ d.floors;
       }
 
   -- in a loop over the depth i, after reads that changed nothing
@@ -160,7 +160,7 @@ module _ {K : Type 0} (κ : Kind K) (law : Lawful κ) where
   pub below_peopled : (m u : Meaning) (l b i c : ℕ) (k : K) → u ≡ m → i < l → Below κ m l b k (l - i) c → Peopled κ.form c u
   below_peopled m u l b i c k e h d = subst (λ z. Peopled κ.form c z) (sym e) (peopled κ index_unit m (l - (i + 1)) c (at_turn m l b i c k h d).sits)
 
-  pub below_turn : (m u n : Meaning) (l b i c : ℕ) (k : K) (w : Way) → u ≡ m → i < l → Below κ m l b k (l - i) c → Led κ.form κ.order κ.unpacked c k u w n → (n ≡ m) × Below κ m l b k (l - (i + 1)) w.child
+  pub below_turn : (m u n : Meaning) (l b i c : ℕ) (k : K) (w : Way) → u ≡ m → i < l → Below κ m l b k (l - i) c → Led κ.form κ.order κ.unpacked c k u w n → (n ≡ m) × Below κ m l b k (l - (i + 1)) w.child.block
   below_turn m u n l b i c k w e h d led =
       let led' : Led κ.form κ.order κ.unpacked c k m w n = subst (λ z. Led κ.form κ.order κ.unpacked c k z w n) e led in
       (led'.found.same, below_child m n l b (l - (i + 1)) c k w (at_turn m l b i c k h d) led')
