@@ -22,7 +22,7 @@ returns-in_err-n g c =
     record {
       call = λ p.
           let f = a.call p in
-          lost_later (kin_same f.same) (e.call (leaf_node (of g) _ _ _ _ _ _ f));
+          lost_later (kin_same f.same) (e.call (leaf_node (of g) _ _ _ _ _ f));
       ready = e.ready;
     })
 
@@ -33,7 +33,7 @@ returns-then-n-eq0 g c = λ h.
     record {
       call = λ p.
           let f = a.call p in
-          let s = searched (of g) _ _ _ _ _ _ _ _ f (e.call (leaf_node (of g) _ _ _ _ _ _ f)) in
+          let s = searched (of g) _ _ _ _ _ _ _ f (e.call (leaf_node (of g) _ _ _ _ _ f)) in
           record { value_is = floor_none (of g) _ _ _ _ c.if-n-eq0.true s.1 ∙ f.floors; same = s.0 };
       ready = e.ready;
     }
@@ -47,7 +47,7 @@ returns-in_err-found g c =
     record {
       call = λ p.
           let f = a.call p in
-          let s = searched (of g) _ _ _ _ _ _ _ _ f (e.call (leaf_node (of g) _ _ _ _ _ _ f)) in
+          let s = searched (of g) _ _ _ _ _ _ _ f (e.call (leaf_node (of g) _ _ _ _ _ f)) in
           lost_later (kin_same s.0) (x.call (room_same _ _ _ _ s.0 (node_of (of g) index_unit _ _ _ f.sits).room));
       ready = x.ready;
     })
@@ -62,7 +62,7 @@ returns-in_err-handle g c =
     record {
       call = λ p.
           let f = a.call p in
-          let s = searched (of g) _ _ _ _ _ _ _ _ f (e.call (leaf_node (of g) _ _ _ _ _ _ f)) in
+          let s = searched (of g) _ _ _ _ _ _ _ f (e.call (leaf_node (of g) _ _ _ _ _ f)) in
           let room = (node_of (of g) index_unit _ _ _ f.sits).room in
           let k = x.call (room_same _ _ _ _ s.0 room) in
           lost_later (kin_same (k.same ∙ s.0)) (y.call (room_same _ _ _ _ (k.same ∙ s.0) room));
@@ -78,7 +78,7 @@ returns g c = λ h.
     record {
       call = λ p.
           let f = a.call p in
-          let s = searched (of g) _ _ _ _ _ _ _ _ f (e.call (leaf_node (of g) _ _ _ _ _ _ f)) in
+          let s = searched (of g) _ _ _ _ _ _ _ f (e.call (leaf_node (of g) _ _ _ _ _ f)) in
           let room = (node_of (of g) index_unit _ _ _ f.sits).room in
           let k = x.call (room_same _ _ _ _ s.0 room) in
           let v = y.call (room_same _ _ _ _ (k.same ∙ s.0) room) in
