@@ -10,10 +10,11 @@ use cache::line::LineTable;
 use call::Call;
 use paged::paged::{Frames, PagedStore};
 use parse::parse;
-use piles::{Pile, answers};
+use piles::{answers, read_below};
 use quota::quota::Quota;
 use std::alloc::{AllocError, Global};
 use std::io::Read;
+use store::blocks::Store;
 use stores::lent::Runs;
 use stores::table::{Rows, TableStore};
 
@@ -64,25 +65,44 @@ const PILES: [(&str, Layers, Bottom); 10] = [
 ];
 
 // What the layers answer over a store.
-fn over<S: Pile + Drop>(
+fn over<S: Store + Drop>(
     heap: Global,
     layers: Layers,
     store: S,
     calls: &[Call],
 ) -> Result<String, AllocError> {
     match layers {
-        Layers::Bare => answers(heap, store, calls),
-        Layers::Quota(limit) => answers(heap, Quota::new(store, limit), calls),
+        Layers::Bare => answers(heap, store, calls, |_, _| Ok(())),
+        Layers::Quota(limit) => answers(heap, Quota::new(store, limit), calls, |quota, _| {
+            drop(quota.end());
+            Ok(())
+        }),
         Layers::Cache(lines) => match LineTable::new(heap, lines) {
-            Ok(table) => answers(heap, Cache::new(store, table), calls),
+            Ok(table) => answers(heap, Cache::new(store, table), calls, |cache, session| {
+                read_below(cache.close(), session).1
+            }),
             Err(_) => no_cache(heap),
         },
         Layers::QuotaOverCache(limit, lines) => match LineTable::new(heap, lines) {
-            Ok(table) => answers(heap, Quota::new(Cache::new(store, table), limit), calls),
+            Ok(table) => answers(
+                heap,
+                Quota::new(Cache::new(store, table), limit),
+                calls,
+                |quota, session| read_below(quota.end().close(), session).1,
+            ),
             Err(_) => no_cache(heap),
         },
         Layers::CacheOverQuota(lines, limit) => match LineTable::new(heap, lines) {
-            Ok(table) => answers(heap, Cache::new(Quota::new(store, limit), table), calls),
+            Ok(table) => answers(
+                heap,
+                Cache::new(Quota::new(store, limit), table),
+                calls,
+                |cache, session| {
+                    let (quota, read) = read_below(cache.close(), session);
+                    drop(quota.end());
+                    read
+                },
+            ),
             Err(_) => no_cache(heap),
         },
     }
