@@ -3,6 +3,7 @@ ghost use Rattle.std.specs.Prelude.{◌≡◌, slice_set};
 ghost use Rattle.stores.specs.Table.{cleared};
 
 // Writes a value at a place of a run.
+// By index: once a slice's `get_mut` is over, a proof knows the slice's length and not its elements.
 pub fn put<T: Copy>(run: &mut [T], at: usize, value: T)
     ensures { run.new ≡ slice_set run.old at value }
 {
