@@ -1,5 +1,5 @@
 -- A cache that is closed, line by line.
-use Rattle.std.proofs.Common.{◌≡◌, ℕ, ◌+◌, ◌<◌, ◌≤◌, Bool, true, false, List, length, set, sym, refl, ap, ◌∙◌, subst, ⊎_elim, arith, below_more}
+use Rattle.std.proofs.Common.{◌≡◌, ℕ, ◌+◌, ◌<◌, ◌≤◌, Bool, true, false, List, length, set, sym, ap, ◌∙◌, subst, ⊎_elim, arith, below_more}
 use Rattle.std.proofs.lemmas.List.{get_or_past, get_or-set_other}
 use Rattle.std.proofs.lemmas.Bool.{cases_lt, cases_Bool, both_ways}
 use Rattle.store.specs.declared.fault.Fault.{Fault}
@@ -18,10 +18,6 @@ pub record Closing (vs : List View) (m : Meaning) (lost : Bool) (i : ℕ) (ws : 
   pub held : Held n lost ws
   pub same : flat ws n ≡ flat vs m
   pub clear : (k : ℕ) → k < i → (nth ws k).block ≡ 0
-
--- no line yet
-pub closing_none : {vs : List View} {m : Meaning} {lost : Bool} (i : ℕ) → i ≤ 0 → Held m lost vs → Closing vs m lost i vs m
-closing_none i z h = record { held = h; same = refl; clear = λ k l. absurd (omega arith) }
 
 -- one line more
 pub closing_more : {vs ws : List View} {m n k : Meaning} {lost : Bool} {i : ℕ} (w : View) → n.granted 0 ≡ false → lost ≡ false → i < length ws → EmptyDone (nth ws i) w n k → Closing vs m lost i ws n → Closing vs m lost (i + 1) (set ws i w) k

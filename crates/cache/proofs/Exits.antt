@@ -1,14 +1,8 @@
 -- The exits of a step: what a `?` returns, and which failures cannot be.
-use Rattle.std.proofs.Common.{◌≡◌, ℕ, ◌<◌, true, is_err, IsErrAnd, Ok, Err, Result, sym, ap, subst, arith}
-use Rattle.std.proofs.lemmas.Bool.{both_ways}
+use Rattle.std.proofs.Common.{◌≡◌, true, is_err, IsErrAnd, Ok, Err, Result, sym, ap, subst}
 use Rattle.store.specs.declared.fault.Fault.{Fault}
-use Rattle.store.specs.declared.fault.Refusal.{Refusal}
-use Rattle.store.specs.declared.fault.Refusal.TheVariants.{Down}
 use Rattle.store.specs.Faults.{deeper}
 use Rattle.store.specs.Layers.{raised}
-use Rattle.store.specs.Meaning.{Meaning, Fell}
-use Rattle.store.specs.Calls.{WordFails}
-use Rattle.store.specs.Calls.WordFails.{word_down, word_missing, word_outside}
 
 err_is : {T E : Type 0} (r : Result T E) (e : E) → IsErrAnd r (λ y. y ≡ e) → r ≡ Err e
 err_is (Ok x) e h = absurd h
@@ -27,9 +21,3 @@ was_ok P (Err f) e p = absurd (cc)
 pub was_err : {A : Type 0} {x : Fault} (P : Result A Fault → Type 0) (r : Result A Fault) → Err x ≡ raised r → P r → (f : Fault) × (deeper f ≡ x) × P (Err f)
 was_err P (Ok y) e p = absurd (cc)
 was_err P (Err f) e p = (f, cc, p)
-
--- a call on a word that is there fails only by 'down'
-pub word_falls : {r : Refusal} {at b place : ℕ} {m n : Meaning} → m.granted b ≡ true → place < m.shape.width → WordFails b place r at m n → (r ≡ Down) × Fell m n
-word_falls g l (word_down e f) = (e, f)
-word_falls g l (word_missing e a f k) = absurd (both_ways _ f g)
-word_falls g l (word_outside e a h f k) = absurd (omega arith)

@@ -1,16 +1,15 @@
 -- A word looked up in the lines, or brought up from below.
-use Rattle.std.proofs.Common.{◌≡◌, ℕ, ◌<◌, Bool, false, List, None, Ok, Err, Result, sym, refl, ap, ◌∙◌, subst, arith}
+use Rattle.std.proofs.Common.{◌≡◌, ℕ, ◌<◌, Bool, false, List, None, Ok, Err, Result, sym, ap, ◌∙◌, subst, arith}
 use Rattle.store.specs.declared.fault.Fault.{Fault}
-use Rattle.store.specs.Faults.{one_deeper, deeper}
 use Rattle.store.specs.Layers.{raised}
 use Rattle.store.specs.Meaning.{Meaning}
-use Rattle.store.specs.Calls.{Get, Deep}
+use Rattle.store.specs.Calls.{Get}
 use Rattle.store.specs.Calls.WordFails.{word_down}
-use Rattle.cache.specs.Lines.{View, Hit, Hits, Noted}
+use Rattle.cache.specs.Lines.{View, Hits, Noted}
 use Rattle.cache.specs.Cache.{cached, Held}
-use Rattle.cache.specs.Steps.{Falls, EvictDone, Loadable, Missing, Brought, LoadDone, Fetched, FetchDone, FetchFails}
+use Rattle.cache.specs.Steps.{Falls, EvictDone, Loadable, Missing, Brought, LoadDone, Fetched}
 use Rattle.cache.specs.Laws.Overlays.{not_zero}
-use Rattle.cache.proofs.Raises.{word_cached, held_word, held_same}
+use Rattle.cache.proofs.Raises.{held_same}
 use Rattle.cache.proofs.Helds.{not_lost}
 
 -- after line i was freed, block b can be read into it
@@ -29,31 +28,6 @@ loaded_on e d = record { same = d.same ∙ e; block = d.block }
 -- freed, and then the store fell
 pub falls_on : {k l n : Meaning} {f : Fault} → l ≡ k → Falls f l n → Falls f k n
 falls_on {n = n} {f} e q = subst (λ x. Falls f x n) e q
-
--- a line that has the word
-pub found : {m : Meaning} {lost : Bool} {vs : List View} (b place i : ℕ) → Hit lost vs b place i → Held m lost vs → FetchDone b place i m vs m vs
-found b place i h k = record {
-  up = (k.fits i (λ q. h.some (sym h.block ∙ q))).up h.up;
-  same = refl;
-  some = h.some;
-  block = h.block;
-  within = h.within;
-}
-
--- where some line has the word, the look-up finds one
-pub not_missed : {lost : Bool} {vs : List View} (b place : ℕ) → (i : ℕ) × Hit lost vs b place i → Hits lost vs b place None → ⊥
-not_missed b place p h = let k = p.1 in let s = h k.up k.some p.0 k.block in let l = k.within in omega arith
-
-module _ {m n : Meaning} {lost lost' : Bool} {vs : List View} (b place : ℕ) (r : Result ℕ Fault) (c : Get b place m r n) (t : Noted lost r lost') (h : Held m lost vs) where
-  -- the first read below failed
-  first_err' : (q : Result ℕ Fault) → Get b place m q n → Deep m q → Noted lost q lost' → {x : Fault} → Err x ≡ raised q → FetchFails b place x m vs n vs × Held n lost' vs
-  first_err' (Ok v) c d t e = let q : ◌≡◌ {A = ℕ} 0 1 = cc in absurd (omega arith)
-  first_err' (Err f) c d t {x} e =
-      let q : deeper f ≡ x = cc in
-      subst (λ y. FetchFails b place y m vs n vs × Held n lost' vs) q (record { call = word_cached vs c; deep = ap one_deeper d }, held_word f t h c)
-
-  pub first_err : Deep m r → {x : Fault} → Err x ≡ raised r → FetchFails b place x m vs n vs × Held n lost' vs
-  first_err d e = first_err' r c d t e
 
 -- the first read below went well: the store is up and has the word, and no line has the block
 pub record First (m : Meaning) (lost : Bool) (vs : List View) (b place : ℕ) (n : Meaning) : Type 0 where

@@ -1,15 +1,13 @@
 -- A block written word by word, and read word by word.
-use Rattle.std.proofs.Common.{◌≡◌, ℕ, ◌+◌, ◌<◌, ◌≤◌, true, cond, ltb, List, [], ◌∷◌, ◌++◌, length, get_or, sym, ap, ◌∙◌, ⊎_elim, arith, below_more}
+use Rattle.std.proofs.Common.{◌≡◌, ℕ, ◌+◌, ◌<◌, ◌≤◌, cond, ltb, List, length, get_or, sym, ap, ◌∙◌, ⊎_elim, arith}
 use mathlib.Core.Path.{fun_ext}
-use Rattle.std.proofs.lemmas.List.{get_or_past, get_or_append_left, get_or_push}
+use Rattle.std.proofs.lemmas.List.{get_or_past}
 use Rattle.std.proofs.lemmas.Bool.{cases_lt, lt-ltb, le-ltb, cond-true, cond-false}
-use Rattle.store.specs.declared.fault.Fault.{Fault}
-use Rattle.store.specs.Meaning.{Meaning, Sound, count, with_at, with_block, written}
-use Rattle.store.specs.Calls.{SetDone, WordFails}
+use Rattle.store.specs.Meaning.{Meaning, Sound, with_at, with_block, written}
+use Rattle.store.specs.Calls.{SetDone}
 use Rattle.store.specs.Laws.Changes.{with_at_from, block_same, block_written}
 use Rattle.cache.specs.Cache.{word_of}
-use Rattle.cache.specs.Steps.{Falls}
-use Rattle.cache.proofs.Exits.{word_falls}
+
 
 -- the first i words of a list, then other words
 unfoldable pub front : ℕ → List ℕ → (ℕ → ℕ) → ℕ → ℕ
@@ -55,32 +53,6 @@ part_more m {b = b} {i} {v} ws e q d =
 pub part_all : {m : Meaning} (b : ℕ) (ws : List ℕ) (i : ℕ) → Sound m → length ws ≡ m.shape.width → i ≡ length ws → part m b ws i ≡ with_block m b (word_of ws)
 part_all {m} b ws i s w e = ap (with_block m b) (front_all i ws (m.words b) (sym e) (λ p l. s.past_width b p (omega (arith, l, w, e))))
 
--- writing a word that is there fails only by 'down'
-pub part_exit : (m : Meaning) {k n : Meaning} {f : Fault} {b i : ℕ} (ws : List ℕ) → m.granted b ≡ true → i < m.shape.width → k ≡ part m b ws i → WordFails b i f.refusal f.block k n → f.depth ≡ k.shape.depth f.refusal (count k) → Falls f m n
-part_exit m {k} {n} {f} {b} {i} ws g l e w d =
-    let q = word_falls {m = part m b ws i} g l (rw e at w) in
-    record {
-      refusal = q.0;
-      fell = record { is_down = q.1.is_down; same_shape = q.1.same_shape; same_below = q.1.same_below; same_grants = q.1.same_grants };
-      deep = d ∙ ap (λ x. x.shape.depth f.refusal (count x)) e;
-    }
-
--- reading a word that is there fails only by 'down'
-pub get_exit : (m : Meaning) {k n : Meaning} {f : Fault} {b i : ℕ} → m.granted b ≡ true → i < m.shape.width → k ≡ m → WordFails b i f.refusal f.block k n → f.depth ≡ k.shape.depth f.refusal (count k) → Falls f m n
-get_exit m {f = f} g l e w d =
-    let q = word_falls {m = m} g l (rw e at w) in
-    record { refusal = q.0; fell = q.1; deep = d ∙ ap (λ x. x.shape.depth f.refusal (count x)) e }
-
 -- xs is the first i words of β
 abbrev pub Fronts : ℕ → List ℕ → (ℕ → ℕ) → Type 0
 Fronts i xs β = (p : ℕ) → p < i → get_or xs p 0 ≡ β p
-
--- one word more read
-pub fronts_more : (i : ℕ) (xs : List ℕ) (β : ℕ → ℕ) (v : ℕ) → length xs ≡ i → v ≡ β i → Fronts i xs β → Fronts (i + 1) (xs ++ v ∷ []) β
-fronts_more i xs β v e q h =
-    below_more _ _ (λ p l. get_or_append_left xs (v ∷ []) 0 p (omega arith) ∙ h p l) (get_or_push xs v 0 i e ∙ q)
-
--- all words read
-pub fronts_all : {m : Meaning} (b i : ℕ) (xs : List ℕ) → Sound m → length xs ≡ i → i ≡ m.shape.width → Fronts i xs (m.words b) → m.words b ≡ word_of xs
-fronts_all {m} b i xs s e w h =
-    fun_ext (λ p. ⊎_elim (λ l. sym (h p l)) (λ l. s.past_width b p (omega (arith, l, w)) ∙ sym (get_or_past xs p 0 (omega arith))) (cases_lt p i))

@@ -3,12 +3,11 @@ use Rattle.std.proofs.Common.{◌≡◌, ℕ, ◌<◌, Bool, true, false, List, 
 use mathlib.Core.Path.{fun_ext}
 use Rattle.std.proofs.lemmas.Bool.{both_ways}
 use Rattle.std.proofs.lemmas.List.{length-set, get_or-set_same, get_or-set_other}
-use Rattle.store.specs.declared.blocks.Stock.{Stock}
 use Rattle.store.specs.declared.fault.Fault.{Fault}
-use Rattle.store.specs.Faults.{one_deeper, deeper}
+use Rattle.store.specs.Faults.{one_deeper}
 use Rattle.store.specs.Layers.{raised}
-use Rattle.store.specs.Meaning.{Meaning, count, with_at, with_blocks, with_block, written}
-use Rattle.store.specs.Calls.{Take, TakeDone, Give, GiveDone, GiveFails, GetDone, SetDone, Stocked, Deep}
+use Rattle.store.specs.Meaning.{Meaning, with_at, with_blocks, with_block, written}
+use Rattle.store.specs.Calls.{Take, TakeDone, Give, GiveDone, GetDone, SetDone, Deep}
 use Rattle.store.specs.Laws.Changes.{with_at_other, with_at_from}
 use Rattle.cache.specs.Lines.{View, nth, set_view, Noted, Clear}
 use Rattle.cache.specs.Cache.{word_of, over, cached, flat, Fits, Held}
@@ -16,7 +15,7 @@ use Rattle.cache.specs.Steps.{FetchDone}
 use Rattle.cache.specs.Laws.Overlays.{not_zero, over_miss, over_hit}
 use Rattle.cache.proofs.Overs.{Absent, within, apart_set, over_put, over_out, over_write}
 use Rattle.cache.proofs.Helds.{held_put, held_out, held_set}
-use Rattle.cache.proofs.Raises.{take_cached, give_cached, stock_cached, held_take, held_give, held_stock, held_same}
+use Rattle.cache.proofs.Raises.{take_cached, held_take, held_same}
 
 -- lines that hold no block leave the words below as they are
 pub clear_over : (vs : List View) (m : Meaning) → m.granted 0 ≡ false → Clear vs → flat vs m ≡ m
@@ -55,21 +54,6 @@ module _ {m n : Meaning} {lost lost' : Bool} {vs : List View} (g0 : m.granted 0 
       } in
       rw e (done, tt, held_same t c.after (put_held m vs b true (λ p. 0) h g0 b0 a))
   took q (Err f) e c d t = rw e (take_cached vs c, ap one_deeper d, held_take f t h c)
-
-  -- the stock was told, or not
-  pub stocked : (q r : Result Stock Fault) → q ≡ raised r → Stocked m r n → Deep m r → Noted lost r lost' → Stocked (cached vs m) q (cached vs n) × Deep (cached vs m) q × Held n lost' vs
-  stocked q (Ok s) e c d t =
-      rw e (record { was_up = c.was_up; width = c.width; granted = c.granted; capacity = c.capacity; same = ap (cached vs) c.same }, tt, held_same t c.same h)
-  stocked q (Err f) e c d t = rw e (stock_cached vs c, ap one_deeper d, held_stock f t h c)
-
-  -- a block was not given back
-  pub give_err : {x : Fault} (b : ℕ) (r : Result (Unit {0}) Fault) → Err x ≡ raised r → Give b m r n → Deep m r → Noted lost r lost'
-      → GiveFails b x.refusal x.block (cached vs m) (cached vs n) × (x.depth ≡ (cached vs m).shape.depth x.refusal (count m)) × Held n lost' vs
-  give_err b (Ok y) e c d t = let q : ◌≡◌ {A = ℕ} 0 1 = cc in absurd (omega arith)
-  give_err {x} b (Err f) e c d t =
-      let q : deeper f ≡ x = cc in
-      subst (λ y. GiveFails b y.refusal y.block (cached vs m) (cached vs n) × (y.depth ≡ (cached vs m).shape.depth y.refusal (count m)) × Held n lost' vs) q
-      (give_cached vs c, ap one_deeper d, held_give f t h c)
 
   -- a block was given back, and no line had it
   pub gave : {x : Unit {0}} (b : ℕ) (r : Result (Unit {0}) Fault) → Ok x ≡ raised r → Give b m r n → Noted lost r lost' → ((b ≡ 0 → ⊥) → Absent vs b) → GiveDone (cached vs m) b (cached vs n) × Held n lost' vs

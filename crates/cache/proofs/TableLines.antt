@@ -1,11 +1,11 @@
 -- A table's lines as they are read and set.
-use Rattle.std.proofs.Common.{◌≡◌, ◌≢◌, ℕ, zero, suc, ◌<◌, ◌≤◌, Bool, false, true, ◌==◌, nat_lt, Option, Some, None, List, [], ◌∷◌, ◌++◌, map, length, get_or, set, sym, refl, ap, ◌∙◌, ⊎_elim, arith}
+use Rattle.std.proofs.Common.{◌≡◌, ◌≢◌, ℕ, zero, suc, ◌<◌, ◌≤◌, Bool, false, true, ◌==◌, nat_lt, Option, Some, None, List, [], ◌∷◌, map, length, get_or, set, sym, ap, ◌∙◌, ⊎_elim, arith}
 use Rattle.std.specs.List.{HoldsAt, AllWithin}
 use Rattle.std.proofs.lemmas.List.{get_or-map, map-set, set-get_or, get_or_past, length-map, get_or-set_same}
 use Rattle.std.proofs.lemmas.Bool.{cases_lt, eq-eqb, eqb-true, lt-ltb, ltb-true, and_from, and_parts, and_right, le-ltb, both_ways}
 use Rattle.cache.specs.declared.line.Line.{Line}
 use Rattle.std.specs.Option.{MatchOption}
-use Rattle.cache.specs.Lines.{View, view, views, nth, blank, Clear, Finds, Hits, has}
+use Rattle.cache.specs.Lines.{View, view, views, nth, blank, Finds, Hits, has}
 
 pub view_at : (ls : List Line) (i : ℕ) (l : Line) → i < length ls → l ≡ get_or ls i l → nth (views ls) i ≡ view l
 view_at ls i l h e = get_or-map view ls i l blank h ∙ ap view (sym e)
@@ -70,12 +70,6 @@ hits ls lost b place (Some i) up ne m =
     let v = nth (views ls) i in
     let p = and_parts (v.block == b) (nat_lt place (length v.words)) m.1 in
     record { up = up; some = ne; line = m.0; block = eqb-true v.block b p.0; within = ltb-true place (length v.words) p.1 }
-
-pub clear_push : (ls : List Line) (l : Line) → l.block ≡ 0 → Clear (views ls) → Clear (views (ls ++ l ∷ []))
-clear_push [] l z c zero = z
-clear_push [] l z c (suc k) = refl
-clear_push (x ∷ xs) l z c zero = c 0
-clear_push (x ∷ xs) l z c (suc k) = clear_push xs l z (λ j. c (suc j)) k
 
 -- a line's block, in a table with the same lines
 pub block_at : {us vs : List View} {a b : ℕ} (i : ℕ) → us ≡ vs → (nth us i).block ≡ a → a ≡ b → (nth vs i).block ≡ b

@@ -1,23 +1,9 @@
 use Rattle.std.proofs.Common.{get_or, ap, ◌∙◌, arith}
-use Rattle.cache.proofs.Exits.{at_exit}
-use Rattle.cache.proofs.Parts.{part_none, part_more, part_all, part_exit}
+use Rattle.cache.proofs.Parts.{part_none, part_more, part_all}
 use Rattle.cache.proofs.moves.spill.Goals as goal
 
 pub loop-i-init : goal.loop-i-init
 loop-i-init g c r = (r, λ _. part_none _ _ c.args.line.now.words.items)
-
-pub returns-in_err-set : goal.returns-in_err-set
-returns-in_err-set g c =
-    let l = c.args.line.now in
-    let m = g.S.Store.meaning c.args.store.now in
-    rw (at_exit _ _ c.from_residual.ensures)
-    (λ r.
-    let i = c.loop-i.invariant r in
-    let e = c.in_err-set.ensures.keeps i.0 in
-    record {
-      call = λ w. part_exit m l.words.items w.granted (omega (arith, w.wide, l.words.ok.0, c.loop-i-test.true)) (i.1 w) e.call e.deep;
-      ready = e.ready;
-    })
 
 pub loop-i-preserved : goal.loop-i-preserved
 loop-i-preserved g c r =
