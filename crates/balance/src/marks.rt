@@ -7,7 +7,7 @@ use std::fmt;
 use tree::mark::Mark;
 
 // A mark for each level, the leaves first.
-// five fields: each level's mark is read by its name, and a tree has no more levels
+// five fields and no array: a level's mark is then read with no bound to show
 #[derive(Clone, Copy, PartialEq, Eq, Debug)]
 pub struct Marks {
     pub level0: Mark,

@@ -1,6 +1,5 @@
 -- Parts of an entry read from its block.
-use Rattle.std.proofs.Common.{◌≡◌, ℕ, ◌+◌, ◌-◌, ◌<◌, ◌≤◌, List, length, get_or, take, set, ap, ◌∙◌, arith}
-use Rattle.std.proofs.lemmas.List.{length-take-le, get_or-take}
+use Rattle.std.proofs.Common.{◌≡◌, ℕ, ◌+◌, ◌<◌, ◌≤◌, List, length, get_or, set, ap, ◌∙◌, arith}
 use Rattle.std.proofs.lemmas.List.Edits.{fill_by_more}
 use Rattle.std.proofs.lemmas.List.FromFn.{fill_by_all}
 use Rattle.store.specs.Meaning.{Meaning}
@@ -26,7 +25,6 @@ read_more m u t b p a j x ws l d h e r y z =
     ap (λ v. get_or (set ws j v) y 0) (r.value ∙ (λ i. (e i).words b (d i + j))) ∙ fill_by_more (λ y. m.words b (p + y)) ws j 0 l h y z
 
 -- all of them: the key's words
-pub read_all : {K : Type 0} (unpacked : List ℕ → K) (φ : Form) (i k n : ℕ) (β : ℕ → ℕ) (ws : List ℕ) (x : K) → k ≡ φ.words → k ≤ n → k ≤ length ws → ((y : ℕ) → y < n → get_or ws y 0 ≡ β (key_at φ i + y)) → x ≡ unpacked (take (k - 0) ws) → x ≡ unpacked (entry_at φ β i).key
+pub read_all : {K : Type 0} (unpacked : List ℕ → K) (φ : Form) (i n : ℕ) (β : ℕ → ℕ) (ws : List ℕ) (x : K) → length ws ≡ φ.words → φ.words ≤ n → ((y : ℕ) → y < n → get_or ws y 0 ≡ β (key_at φ i + y)) → x ≡ unpacked ws → x ≡ unpacked (entry_at φ β i).key
 unfolding entry_at
-read_all unpacked φ i k n β ws x e m l h r =
-    r ∙ ap unpacked (ap (λ z. take z ws) (omega arith) ∙ fill_by_all (λ y. β (key_at φ i + y)) (take φ.words ws) φ.words 0 (length-take-le φ.words ws (omega arith)) (λ y z. get_or-take φ.words ws y 0 z ∙ h y (omega arith)))
+read_all unpacked φ i n β ws x e l h r = r ∙ ap unpacked (fill_by_all (λ y. β (key_at φ i + y)) ws φ.words 0 e (λ y z. h y (omega arith)))
