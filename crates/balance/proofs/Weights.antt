@@ -43,9 +43,6 @@ weighed_inner φ b (suc l) i w m n e p r = record { value = r.value φ ∙ sym (
 pub weight_there : (k b l i : ℕ) (m : Meaning) → Weighable (form k) b l i m → Word b (weight_at i) m
 weight_there k b l i m p = room_place (form k) b (weight_at i) m (omega (arith, p.has, p.mild.node.few)) p.mild.node.room
 
-mild_same : (φ : Form) (b l : ℕ) (m n : Meaning) → n ≡ m → Mild φ b l m → Mild φ b l n
-mild_same φ b l m n e p = subst (λ z. Mild φ b l z) (sym e) p
-
 -- one weight more is to be read, after so many were
 pub still_weighable : (φ : Form) (b l c i : ℕ) (m u : Meaning) → u ≡ m → i < c → Counted φ b l c m → Weighable φ b l i u
 still_weighable φ b l c i m u e h p = subst (λ z. Weighable φ b l i z) (sym e) (record { mild = p.mild; has = omega (arith, p.count) })

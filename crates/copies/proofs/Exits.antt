@@ -30,9 +30,6 @@ pub kin_edit : (l m : Meaning) (b : ℕ) (F : (ℕ → ℕ) → ℕ → ℕ) →
 unfolding edit
 kin_edit l m b F e = record { shape = ap (λ z. z.shape) e; below = ap (λ z. z.below) e }
 
-pub kin_then : {l m n : Meaning} → Kin l m → Kin m n → Kin l n
-kin_then a b = record { shape = b.shape ∙ a.shape; below = b.below ∙ a.below }
-
 -- work lost at m is lost to what began at l
 pub lost_later : {l m n : Meaning} {f : Fault} → Kin l m → Lost m f n → Lost l f n
 lost_later k h = record {

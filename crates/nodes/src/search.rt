@@ -18,6 +18,7 @@ pub fn keys_up_to<K: Key, S: Store>(store: &mut S, block: u32, q: &K) -> Result<
     ensures finds { Leaves S.meaning S.ready (Work (Node (form K.width) block) (Found (form K.width) K.cmp K.unpacked block q.now)) store.old result store.new }
     ensures refuses { Leaves S.meaning S.ready (Fails (Overfull block) (Damage block)) store.old result store.new }
 {
+    // by hand: the keys are read through a store that may fail, and no search of the library halves over such reads
     let mut low = 0;
     let mut high = count(store, block)?;
     while low < high {

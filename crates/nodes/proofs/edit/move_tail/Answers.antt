@@ -1,39 +1,13 @@
 use Rattle.std.proofs.Common.{◌-◌, ap, ◌∙◌, arith}
 use Rattle.store.specs.Meaning.{with_at}
 use Rattle.copies.specs.Blocks.{Word, Edited}
-use Rattle.copies.proofs.Exits.{raised, lost_later, kin_same, kin_edit, word_lost, set_edit, set_at, fails_at, set_work_at, work_on}
+use Rattle.copies.proofs.Exits.{raised, lost_later, kin_edit, word_lost, set_edit, set_at, fails_at, set_work_at, work_on}
 use Rattle.copies.proofs.Edits.{edit_then}
 use Rattle.nodes.specs.Places.{form}
 use Rattle.nodes.specs.Nodes.{Partable, Parted}
 use Rattle.nodes.proofs.Rooms.{room_edit, room_place, rooms_same, countable_same, carry_same}
 use Rattle.nodes.proofs.Lists.{part_holds}
 use Rattle.nodes.proofs.edit.move_tail.Goals as goal
-
-pub returns-in_err-level : goal.returns-in_err-level
-returns-in_err-level g c =
-    rw (raised _ _ c.from_residual.ensures) (λ h.
-    let e = c.in_err-level.ensures.keeps h in
-    record { call = λ p. word_lost (room_place (form g.K.Key.width) _ _ _ (omega arith) p.rooms.one) e.call e.deep; ready = e.ready })
-
-pub returns-in_err-n : goal.returns-in_err-n
-returns-in_err-n g c =
-    rw (raised _ _ c.from_residual-in_err-n.ensures) (λ h.
-    let a = c.in_ok-level.ensures.keeps h in
-    let e = c.in_err-n.ensures.counts a.ready in
-    record { call = λ p. lost_later (kin_same a.call.same) (e.call (countable_same g.K.Key.width _ _ _ a.call.same p.few p.rooms.one)); ready = e.ready })
-
-pub returns-in_err-copy_entries : goal.returns-in_err-copy_entries
-returns-in_err-copy_entries g c =
-    rw (raised _ _ c.from_residual-in_err-copy_entries.ensures) (λ h.
-    let a = c.in_ok-level.ensures.keeps h in
-    let b = c.in_ok-n.ensures.counts a.ready in
-    let e = c.in_err-copy_entries.ensures b.ready in
-    record {
-      call = λ p.
-          let same = (b.call (countable_same g.K.Key.width _ _ _ a.call.same p.few p.rooms.one)).same ∙ a.call.same in
-          lost_later (kin_same same) (e.call (rooms_same _ _ _ _ _ same p.rooms));
-      ready = e.ready;
-    })
 
 pub returns-in_err-set : goal.returns-in_err-set
 returns-in_err-set g c =

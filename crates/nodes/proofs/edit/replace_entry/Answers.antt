@@ -1,22 +1,10 @@
-use Rattle.std.proofs.Common.{arith}
 use Rattle.copies.specs.Blocks.{Edited}
-use Rattle.copies.proofs.Exits.{raised, kin_same, work_on}
+use Rattle.copies.proofs.Exits.{kin_same, work_on}
 use Rattle.nodes.specs.Places.{form}
 use Rattle.nodes.specs.Nodes.{Room, Has, Changed, entry_of, placed, replace_at}
 use Rattle.nodes.proofs.Rooms.{room_same, countable, edit_same}
 use Rattle.nodes.proofs.Lists.{replace_holds}
 use Rattle.nodes.proofs.edit.replace_entry.Goals as goal
-
-pub returns-in_err-held : goal.returns-in_err-held
-returns-in_err-held g c =
-    rw (raised _ _ c.from_residual.ensures) (λ h.
-    let e = c.in_err-held.ensures.counts h in
-    record { call = λ p. e.call (countable g.K.Key.width _ _ p.few p.room); ready = e.ready })
-
-pub returns-then-i-held : goal.returns-then-i-held
-returns-then-i-held g c h =
-    let r = c.in_ok-held.ensures.counts h in
-    record { call = λ p. absurd (omega (arith, p.has, (r.call (countable g.K.Key.width _ _ p.few p.room)).value)); ready = r.ready }
 
 pub returns : goal.returns
 returns g c h =
