@@ -1,10 +1,10 @@
 // A list of calls made on a new index, one after the other.
 use crate::call::{Answer, Call};
 use balance::marks::Marks;
-use index::index::{Created, Index, Refused};
+use index::index::{Created, Index};
 use keys::checkpoint::Checkpoint;
 use store::blocks::Store;
-use store::fault::Fault;
+use store::fault::{Fault, Refused};
 
 // An update's answer.
 fn updated(res: Result<Marks, Fault>) -> Answer {
@@ -38,11 +38,11 @@ fn serve<S: Store>(index: &mut Index<Checkpoint, S>, call: Call) -> Answer {
 // can be made, each call is answered with that refusal.
 pub fn run<S: Store>(store: S, calls: &[Call], answers: &mut [Answer]) -> S {
     match Index::create(store) {
-        Err(Refused { fault, store }) => {
+        Err(Refused { cause, back }) => {
             for answer in answers.iter_mut() {
-                *answer = Answer::Refused(fault);
+                *answer = Answer::Refused(cause);
             }
-            store
+            back
         }
         Ok(
             Created {

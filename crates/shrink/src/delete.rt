@@ -1,5 +1,4 @@
 // A pair taken out of the tree.
-
 use crate::merge::mend;
 use ask::find::find;
 use balance::down::way_down;
