@@ -129,12 +129,11 @@ module _ {K : Type 0} (κ : Kind K) where
   pub floor_none : (m : Meaning) (b : ℕ) (k : K) (r : ℕ) → r ≡ 0 → Parted m b k r → None ≡ floor κ.order k (pairs_in κ m.words 0 b)
   floor_none m b k r e p = sym (ap (last_or None) (kept_first m b k r p ∙ ap (λ z. take z (node κ m.words 0 b)) e))
 
-  pub floor_some : (m : Meaning) (b : ℕ) (k : K) (r : ℕ) → 0 < r → Parted m b k r → Some (item κ m.words 0 (entry_at κ.form (m.words b) (r - 1))) ≡ floor κ.order k (pairs_in κ m.words 0 b)
-  floor_some m b k r h p =
+  pub floor_some : (m : Meaning) (b : ℕ) (k : K) (r i : ℕ) → r ≡ suc i → Parted m b k r → Some (item κ m.words 0 (entry_at κ.form (m.words b) i)) ≡ floor κ.order k (pairs_in κ m.words 0 b)
+  floor_some m b k r i e p =
       let x = node κ m.words 0 b in
-      let q = item κ m.words 0 (entry_at κ.form (m.words b) (r - 1)) in
-      let back : r ≡ suc (r - 1) = omega arith in
-      sym (ap (last_or None) (kept_first m b k r p ∙ ap (λ z. take z x) back) ∙ last_take None x (r - 1) q (omega (arith, p.within, node_length κ m.words 0 b)) ∙ ap Some (item_at κ m.words 0 b (r - 1) q (omega (arith, p.within))))
+      let q = item κ m.words 0 (entry_at κ.form (m.words b) i) in
+      sym (ap (last_or None) (kept_first m b k r p ∙ ap (λ z. take z x) e) ∙ last_take None x i q (omega (arith, p.within, node_length κ m.words 0 b)) ∙ ap Some (item_at κ m.words 0 b i q (omega (arith, p.within))))
 
   -- a node below the root, with the floor of k in it
   pub record Below (m : Meaning) (root : Node) (k : K) (node : Node) : Type 0 where

@@ -31,12 +31,11 @@ pub fn floor<K: Key, S: Store>(store: &mut S, root: Node, key: &K) -> Result<Opt
     ensures { Leaves S.meaning S.ready (Asks (kind K.width K.cmp K.packed K.unpacked) root (plain_floor K.cmp key.now)) store.old result store.new }
 {
     let leaf = leaf_of(store, root, key)?;
-    let n = keys_up_to(store, leaf, key)?;
-    if n == 0 {
+    let Some(last) = keys_up_to(store, leaf, key)?.checked_sub(1) else {
         return Ok(None);
-    }
-    let found = entry_key(store, leaf, n - 1)?;
-    let handle = entry_child::<K, S>(store, leaf, n - 1)?;
+    };
+    let found = entry_key(store, leaf, last)?;
+    let handle = entry_child::<K, S>(store, leaf, last)?;
     Ok(Some(Pair { key: found, handle }))
 }
 

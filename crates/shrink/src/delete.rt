@@ -1,5 +1,4 @@
 // A pair taken out of the tree.
-
 use crate::merge::mend;
 use ask::find::find;
 use balance::down::way_down;
@@ -38,11 +37,10 @@ fn settle<K: Key, S: Store>(store: &mut S, way: Way) -> Result<Mark, Fault> {
 // Takes a key, which is there, out below a node, whose own weight its parent looks at.
 pub fn delete_below<K: Key, S: Store>(store: &mut S, node: Node, key: &K) -> Result<Marks, Fault> {
     if node.level == 0 {
-        let n = keys_up_to(store, node.block, key)?;
-        if n == 0 {
+        let Some(last) = keys_up_to(store, node.block, key)?.checked_sub(1) else {
             return Err(damaged(node.block));
-        }
-        remove_entry::<K, S>(store, node.block, n - 1)?;
+        };
+        remove_entry::<K, S>(store, node.block, last)?;
         return Ok(Marks::none());
     }
     let way = way_down(store, node, key)?;

@@ -1,4 +1,3 @@
-use Rattle.std.proofs.Common.{refl}
 use Rattle.copies.proofs.Exits.{raised, lost_later, kin_same}
 use Rattle.held.specs.Held.{Kind, kind, Lawful}
 use Rattle.ask.proofs.Leaves.{below_turn, below_peopled, leaf_reached}
@@ -10,9 +9,6 @@ of g = kind g.K.Key.width g.K.Ord.cmp g.K.Key.packed g.K.Key.unpacked
 
 abbrev law : (g : given.Over) → Lawful (of g)
 law g = record { ordered = g.met.K.Key.ordered; packing = g.met.K.Key.packing }
-
-pub loop-node-init : goal.loop-node-init
-loop-node-init g c = λ h. record { call = λ p. (refl, record { sits = p; floors = refl }); ready = h }
 
 pub loop-node-preserved : goal.loop-node-preserved
 loop-node-preserved g c = λ h.
