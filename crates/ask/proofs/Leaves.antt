@@ -1,6 +1,6 @@
 -- The way to a leaf, and what a search in a leaf tells of its pairs.
-use Rattle.std.proofs.Common.{◌≡◌, ℕ, zero, suc, ◌-◌, ◌<◌, ◌≤◌, Bool, true, false, cond, List, [], ◌∷◌, ◌++◌, map, length, get_or, take, drop, Some, None, filter, Option, Ordering, Less, Equal, Greater, unwrap_or, sym, refl, ap, ◌∙◌, subst, append-nil, arith}
-use Rattle.std.proofs.lemmas.List.{take-append-drop}
+use Rattle.std.proofs.Common.{◌≡◌, ℕ, zero, suc, ◌+◌, ◌-◌, ◌<◌, ◌≤◌, Bool, true, false, cond, List, [], ◌∷◌, ◌++◌, map, get_or, take, drop, Some, None, filter, Option, Ordering, Less, Equal, Greater, unwrap_or, sym, refl, ap, ◌∙◌, subst, append-nil, arith}
+use Rattle.std.proofs.lemmas.List.{take-append-drop, take_more}
 use Rattle.std.specs.List.{last_or, AllByRecursion}
 use Rattle.std.specs.Bool.{then_some}
 use Rattle.std.specs.Option.{MatchOption, IsSomeAnd}
@@ -13,32 +13,18 @@ use Rattle.nodes.specs.Nodes.{Entry, Node as IsNode, Keyed, Leads, entry_at, ent
 use Rattle.nodes.specs.Finds.{Found, keys_in}
 use Rattle.plain.specs.Plain.{Sorted, find, floor}
 use Rattle.plain.specs.declared.pair.Pair.{Pair}
-use Rattle.plain.proofs.Alls.{all_map, kept_append, kept_all, kept_none, last_some}
-use Rattle.tree.specs.Tree.{index_shape, index_unit}
+use Rattle.plain.proofs.Alls.{all_map, kept_append, kept_all, kept_none, last_some, last_append}
+use Rattle.tree.specs.Tree.{index_unit}
 use Rattle.tree.specs.Queries.{floor_down}
-use Rattle.tree.proofs.Units.{Units, shape_units}
 use Rattle.tree.proofs.Flat.{flat_leaf}
 use Rattle.tree.proofs.Queries.{flat_floor}
 use Rattle.balance.specs.declared.way.Way.{Way}
 use Rattle.balance.specs.Ways.{Led, Peopled}
+use Rattle.balance.proofs.Levels.{index_units}
 use Rattle.held.specs.Held.{Kind, Lawful, item, node, Sits}
 use Rattle.held.specs.Roots.{pairs_in, pairs_below, Rooted}
-use Rattle.held.proofs.Child.{child, peopled, node_of, item_at, node_length}
+use Rattle.held.proofs.Child.{child, peopled, node_of, item_at, node_length, not_greater}
 use Rattle.ask.specs.Leaf.{LeafOf}
-
-pub units : Units index_unit
-units = shape_units index_shape
-
-not_greater : (r : Ordering) → (r ≡ Greater → ⊥) → is_le r ≡ true
-not_greater Less h = refl
-not_greater Equal h = refl
-not_greater Greater h = absurd (h refl)
-
--- the last of the first so many
-pub last_take : {X : Type 0} (o : Option X) (xs : List X) (r : ℕ) (d : X) → r < length xs → last_or o (take (suc r) xs) ≡ Some (get_or xs r d)
-last_take o [] r d h = absurd (omega arith)
-last_take o (x ∷ xs) zero d h = refl
-last_take o (x ∷ xs) (suc r) d h = last_take (Some x) xs r d (omega arith)
 
 -- the handle in a floor, if its key is k
 abbrev pub handle_at : {K : Type 0} → (K → K → Ordering) → K → Option (Pair K) → Option ℕ
@@ -111,10 +97,6 @@ module _ {K : Type 0} (κ : Kind K) where
         high = rest_above m.words k es r sp.rest;
       }
 
-  all_fail : (k : K) (ps : List (Pair K)) → AllByRecursion (λ p. κ.order p.key k ≡ Greater) ps → AllByRecursion (λ p. is_le (κ.order p.key k) ≡ false) ps
-  all_fail k [] a = tt
-  all_fail k (p ∷ ps) a = (ap is_le a.0, all_fail k ps a.1)
-
   -- those at most k
   pub kept_first : (m : Meaning) (b : ℕ) (k : K) (r : ℕ) → Parted m b k r → filter (λ p. is_le (κ.order p.key k)) (pairs_in κ m.words 0 b) ≡ take r (node κ m.words 0 b)
   kept_first m b k r p =
@@ -123,17 +105,18 @@ module _ {K : Type 0} (κ : Kind K) where
       ap (filter t) (leaf_pairs m.words b ∙ sym (take-append-drop r x))
       ∙ kept_append t (take r x) (drop r x)
       ∙ ap (λ z. z ++ filter t (drop r x)) (kept_all t (take r x) p.low)
-      ∙ ap (λ z. take r x ++ z) (kept_none t (drop r x) (all_fail k (drop r x) p.high))
+      ∙ ap (λ z. take r x ++ z) (kept_none t (drop r x) (all_map _ _ (drop r x) (λ q e. ap is_le e) p.high))
       ∙ append-nil (take r x)
 
   pub floor_none : (m : Meaning) (b : ℕ) (k : K) (r : ℕ) → r ≡ 0 → Parted m b k r → None ≡ floor κ.order k (pairs_in κ m.words 0 b)
   floor_none m b k r e p = sym (ap (last_or None) (kept_first m b k r p ∙ ap (λ z. take z (node κ m.words 0 b)) e))
 
-  pub floor_some : (m : Meaning) (b : ℕ) (k : K) (r i : ℕ) → r ≡ suc i → Parted m b k r → Some (item κ m.words 0 (entry_at κ.form (m.words b) i)) ≡ floor κ.order k (pairs_in κ m.words 0 b)
+  pub floor_some : (m : Meaning) (b : ℕ) (k : K) (r i : ℕ) → r ≡ i + 1 → Parted m b k r → Some (item κ m.words 0 (entry_at κ.form (m.words b) i)) ≡ floor κ.order k (pairs_in κ m.words 0 b)
   floor_some m b k r i e p =
       let x = node κ m.words 0 b in
       let q = item κ m.words 0 (entry_at κ.form (m.words b) i) in
-      sym (ap (last_or None) (kept_first m b k r p ∙ ap (λ z. take z x) e) ∙ last_take None x i q (omega (arith, p.within, node_length κ m.words 0 b)) ∙ ap Some (item_at κ m.words 0 b i q (omega (arith, p.within))))
+      let first : take r x ≡ take i x ++ (get_or x i q ∷ []) = ap (λ z. take z x) e ∙ take_more x i q (omega (arith, p.within, node_length κ m.words 0 b)) in
+      sym (ap (last_or None) (kept_first m b k r p ∙ first) ∙ last_append None (take i x) (get_or x i q ∷ []) ∙ ap Some (item_at κ m.words 0 b i q (omega (arith, p.within))))
 
   -- a node below the root, with the floor of k in it
   pub record Below (m : Meaning) (root : Node) (k : K) (node : Node) : Type 0 where
@@ -142,12 +125,12 @@ module _ {K : Type 0} (κ : Kind K) where
 
 module _ {K : Type 0} (κ : Kind K) (law : Lawful κ) where
   pub floor_whole : (m : Meaning) (l b : ℕ) (k : K) → Sits κ index_unit m l b → floor_down κ.order l k (node κ m.words l b) ≡ floor κ.order k (pairs_in κ m.words l b)
-  floor_whole m l b k s = flat_floor law.ordered index_unit units l k (node κ m.words l b) s.kids s.fits s.ascending
+  floor_whole m l b k s = flat_floor law.ordered index_unit index_units l k (node κ m.words l b) s.kids s.fits s.ascending
 
   -- the child at l of a node one level higher
   below_child : (m n : Meaning) (root : Node) (l c : ℕ) (k : K) (w : Way) → Below κ m root k (record { block = c; level = suc l }) → Led κ.form κ.order κ.unpacked c k m w n → Below κ m root k (record { block = w.child.block; level = l })
   below_child m n root l c k w d led =
-      let h = child κ law index_unit units m n l c k w d.sits led in
+      let h = child κ law index_unit index_units m n l c k w d.sits led in
       record {
         sits = h.sits;
         floors = sym (floor_whole m l w.child.block k h.sits) ∙ sym (h.routed.floor_is ∙ ap (floor_down κ.order l k) h.is) ∙ floor_whole m (suc l) c k d.sits ∙ d.floors;

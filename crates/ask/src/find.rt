@@ -1,10 +1,9 @@
 // The pair of a key, and the last pair at or below one.
 ghost use Rattle.store.specs.Calls.{Leaves};
-ghost use Rattle.copies.specs.Work.{Work};
 ghost use Rattle.plain.specs.Plain.{floor as plain_floor, find as plain_find};
 ghost use Rattle.held.specs.Held.{kind};
-ghost use Rattle.held.specs.Roots.{Rooted, Asks};
-ghost use Rattle.ask.specs.Leaf.{LeafOf};
+ghost use Rattle.held.specs.Roots.{Asks};
+ghost use Rattle.ask.specs.Leaf.{Reaches};
 
 use balance::down::way_down;
 use keys::key::Key;
@@ -17,7 +16,7 @@ use store::fault::Fault;
 
 // The leaf that a key belongs to.
 fn leaf_of<K: Key, S: Store>(store: &mut S, root: Node, key: &K) -> Result<u32, Fault>
-    ensures { Leaves S.meaning S.ready (Work (Rooted (kind K.width K.cmp K.packed K.unpacked) root) (LeafOf (kind K.width K.cmp K.packed K.unpacked) root key.now)) store.old result store.new }
+    ensures { Leaves S.meaning S.ready (Reaches (kind K.width K.cmp K.packed K.unpacked) root key.now) store.old result store.new }
 {
     let mut node = root;
     while node.level > 0 {

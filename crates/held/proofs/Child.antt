@@ -103,7 +103,7 @@ times_one f c e = omega (arith, times_append c (f e) [])
 pub block_number_is : (c : ℕ) → c ≤ limit → block_number c ≡ c
 block_number_is c h = cond-true (leb c limit) c 0 (le-leb c limit h)
 
-not_greater : (r : Ordering) → (r ≡ Greater → ⊥) → is_le r ≡ true
+pub not_greater : (r : Ordering) → (r ≡ Greater → ⊥) → is_le r ≡ true
 not_greater Less h = refl
 not_greater Equal h = refl
 not_greater Greater h = absurd (h refl)

@@ -33,13 +33,13 @@ module _ {K : Type 0} (κ : Kind K) where
   abbrev pub pairs_below : Node → Meaning → List (Pair K)
   pairs_below root m = pairs_in m.words root.level root.block
 
-  -- where a tree stands below the root, the answer is this of its pairs, and nothing changed
+  -- where a tree stands below the root, the answer is this of its pairs and nothing changed, or the store said 'down'
   abbrev pub Asks : {A : Type 0} → Node → (List (Pair K) → A) → Meaning → Result A Fault → Meaning → Type 0
   Asks root value = Work (Rooted root) (Tells (λ m. value (pairs_below root m)))
 
   -- a tree that keeps the rules stands below the root, with as many keys as the header says
   pub record Stands (h : Header) (m : Meaning) : Type 0 where
-    pub sits : Sits κ index_unit m h.root.level h.root.block
+    pub sits : Rooted h.root m
     pub keys : h.keys ≡ size K (tree_of m.words h)
     pub low : h.root.level ≤ index_shape.top
 

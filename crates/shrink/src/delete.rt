@@ -31,7 +31,7 @@ fn settle<K: Key, S: Store>(store: &mut S, way: Way) -> Result<Mark, Fault> {
     if weight >= limit(way.child.level) / 4 {
         return Ok(Mark::Nothing);
     }
-    mend::<K, S>(store, way)
+    mend::<K, S>(store, way.parent, way.place, way.child.level)
 }
 
 // Takes a key, which is there, out below a node, whose own weight its parent looks at.

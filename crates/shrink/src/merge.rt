@@ -21,11 +21,14 @@ pub struct Siblings<K> {
     pub weight: u64,
 }
 
-// A child with its left neighbour, or with its right one if there is no left.
-fn neighbours<K: Key, S: Store>(store: &mut S, way: Way) -> Result<Siblings<K>, Fault> {
-    let parent = way.parent;
-    let level = way.child.level;
-    let place = way.place.saturating_sub(1);
+// The child at a place with its left neighbour, or with its right one if there is no left.
+fn neighbours<K: Key, S: Store>(
+    store: &mut S,
+    parent: u32,
+    place: u32,
+    level: u32,
+) -> Result<Siblings<K>, Fault> {
+    let place = place.saturating_sub(1);
     let n = count(store, parent)?;
     if n < 2 || place > n - 2 {
         return Err(damaged(parent));
@@ -91,10 +94,16 @@ fn share<K: Key, S: Store>(store: &mut S, pair: &Siblings<K>) -> Result<(), Faul
     replace_entry(store, right.parent, right.place, &entry)
 }
 
-// Merges a child that became too light with a sibling; a node above 7/8 of the limit is shared out again.
-pub fn mend<K: Key, S: Store>(store: &mut S, way: Way) -> Result<Mark, Fault> {
-    let pair: Siblings<K> = neighbours(store, way)?;
-    if pair.weight > limit(way.child.level) / 8 * 7 {
+// Merges the child at a place, which became too light, with a sibling; a node above 7/8 of the limit is shared out again.
+// It takes no `Way`, so that it may be called with any place: the parent's count decides which there are.
+pub fn mend<K: Key, S: Store>(
+    store: &mut S,
+    parent: u32,
+    place: u32,
+    level: u32,
+) -> Result<Mark, Fault> {
+    let pair: Siblings<K> = neighbours(store, parent, place, level)?;
+    if pair.weight > limit(level) / 8 * 7 {
         share(store, &pair)?;
         return Ok(Mark::MergeSplit);
     }
