@@ -1,9 +1,8 @@
 -- A line that is freed, and a line that is filled.
-use Rattle.std.proofs.Common.{◌≡◌, ℕ, ◌<◌, Bool, false, List, length, set, Ok, Err, Result, sym, refl, ap, ◌∙◌, subst, ⊎_elim, arith}
+use Rattle.std.proofs.Common.{◌≡◌, ℕ, ◌<◌, Bool, false, List, length, set, Ok, Err, Result, sym, refl, ap, ◌∙◌, subst, ⊎_elim}
 use Rattle.std.proofs.lemmas.List.{set-get_or}
 use Rattle.std.proofs.lemmas.Bool.{cases_eq}
 use Rattle.store.specs.declared.fault.Fault.{Fault}
-use Rattle.store.specs.Faults.{deeper}
 use Rattle.store.specs.Layers.{raised}
 use Rattle.store.specs.Meaning.{Meaning, with_blocks, with_block}
 use Rattle.store.specs.Laws.Changes.{with_at_same}
@@ -11,6 +10,7 @@ use Rattle.cache.specs.Lines.{View, nth, blank, Noted}
 use Rattle.cache.specs.Cache.{word_of, over, cached, Whole, Fits, Held}
 use Rattle.cache.specs.Steps.{Falls, emptied, Empty, Fill, EvictDone, Loadable, Loaded, LoadDone}
 use Rattle.cache.specs.Laws.Overlays.{over_hit}
+use Rattle.cache.proofs.Exits.{was_ok, was_err}
 use Rattle.cache.proofs.Overs.{nth_same, absent_set, over_idle, over_out, over_in}
 use Rattle.cache.proofs.Helds.{held_set, held_out, emptied_none, emptied_full, not_lost}
 use Rattle.cache.proofs.Raises.{falls_cached, held_falls, held_same}
@@ -56,24 +56,23 @@ goes_whole {m} i e h ne = subst (Whole m) e (h.fits i (λ q. ne (ap (λ x. x.blo
 module _ {m n : Meaning} {lost lost' : Bool} {vs : List View} (i : ℕ) (w : View) (l : i < length vs) (g0 : m.granted 0 ≡ false) (up : m.down ≡ false) (h : Held m lost vs) where
   -- line i was freed, or the store fell
   pub evict_ok : {x : Unit {0}} (out : Result (Unit {0}) Fault) → Ok x ≡ raised out → Empty (nth vs i) w m out n → Noted lost out lost' → EvictDone i m vs n (set vs i w) × Held n lost' (set vs i w)
-  evict_ok (Err f) e d t = let q : ◌≡◌ {A = ℕ} 0 1 = cc in absurd (omega arith)
-  evict_ok (Ok y) e d t =
-      let q = freed m lost vs i w l d.none h g0 (not_lost h up) n d.after in (
+  evict_ok out e d t =
+      let p = was_ok (λ a. Empty (nth vs i) w m a n × Noted lost a lost') out e (d, t) in
+      let q = freed m lost vs i w l p.0.none h g0 (not_lost h up) n p.0.after in (
         record {
           same = q.0;
-          none = ap (λ v. v.block) (nth_same vs i w l) ∙ d.none;
-          absent = λ b b0 a. absent_set vs i w l b (λ r. b0 (sym r ∙ d.none)) a;
+          none = ap (λ v. v.block) (nth_same vs i w l) ∙ p.0.none;
+          absent = λ b b0 a. absent_set vs i w l b (λ r. b0 (sym r ∙ p.0.none)) a;
         },
-        held_same t refl q.1,
+        held_same p.1 refl q.1,
       )
 
   pub evict_err : {x : Fault} (out : Result (Unit {0}) Fault) → Err x ≡ raised out → Empty (nth vs i) w m out n → Noted lost out lost' → Falls x (cached vs m) (cached (set vs i w) n) × Held n lost' (set vs i w)
-  evict_err (Ok y) e d t = let q : ◌≡◌ {A = ℕ} 0 1 = cc in absurd (omega arith)
-  evict_err {x} (Err f) e d t =
-      let same : set vs i w ≡ vs = ap (set vs i) d.kept ∙ set-get_or vs i blank in
-      let q : deeper f ≡ x = cc in (
-        subst (λ y. Falls y (cached vs m) (cached (set vs i w) n)) q (falls_cached vs (set vs i w) d.down),
-        subst (Held n lost') (sym same) (held_falls t d.down.refusal d.down.fell h),
+  evict_err {x} out e d t =
+      let p = was_err (λ a. Empty (nth vs i) w m a n × Noted lost a lost') out e (d, t) in
+      let same : set vs i w ≡ vs = ap (set vs i) p.2.0.kept ∙ set-get_or vs i blank in (
+        subst (λ y. Falls y (cached vs m) (cached (set vs i w) n)) p.1 (falls_cached vs (set vs i w) p.2.0.down),
+        subst (Held n lost') (sym same) (held_falls p.2.1 p.2.0.down.refusal p.2.0.down.fell h),
       )
 
 module _ {m n : Meaning} {lost lost' : Bool} {vs : List View} (b i : ℕ) (w : View) (l : i < length vs) (g0 : m.granted 0 ≡ false) (p : Loadable b i m vs) (h : Held m lost vs) where

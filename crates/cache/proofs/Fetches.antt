@@ -3,13 +3,15 @@ use Rattle.std.proofs.Common.{◌≡◌, ℕ, ◌<◌, Bool, false, List, None, 
 use Rattle.store.specs.declared.fault.Fault.{Fault}
 use Rattle.store.specs.Layers.{raised}
 use Rattle.store.specs.Meaning.{Meaning}
-use Rattle.store.specs.Calls.{Get}
+use Rattle.store.specs.Faults.{one_deeper}
+use Rattle.store.specs.Calls.{Get, Deep}
 use Rattle.store.specs.Calls.WordFails.{word_down}
 use Rattle.cache.specs.Lines.{View, Hits, Noted}
 use Rattle.cache.specs.Cache.{cached, Held}
-use Rattle.cache.specs.Steps.{Falls, EvictDone, Loadable, Missing, Brought, LoadDone, Fetched}
+use Rattle.cache.specs.Steps.{Falls, EvictDone, Loadable, Missing, Brought, LoadDone, Fetched, FetchFails}
 use Rattle.cache.specs.Laws.Overlays.{not_zero}
-use Rattle.cache.proofs.Raises.{held_same}
+use Rattle.cache.proofs.Raises.{word_cached, held_word, held_same}
+use Rattle.cache.proofs.Exits.{was_ok, was_err}
 use Rattle.cache.proofs.Helds.{not_lost}
 
 -- after line i was freed, block b can be read into it
@@ -29,6 +31,15 @@ loaded_on e d = record { same = d.same ∙ e; block = d.block }
 pub falls_on : {k l n : Meaning} {f : Fault} → l ≡ k → Falls f l n → Falls f k n
 falls_on {n = n} {f} e q = subst (λ x. Falls f x n) e q
 
+-- the first read below failed
+pub first_err : {m n : Meaning} {lost lost' : Bool} {vs : List View} {x : Fault} (b place : ℕ) (r : Result ℕ Fault)
+    → Err x ≡ raised r → Get b place m r n → Deep m r → Noted lost r lost' → Held m lost vs
+    → FetchFails b place x m vs n vs × Held n lost' vs
+first_err {m} {n} {lost} {lost'} {vs} b place r e c d t h =
+    let p = was_err (λ a. Get b place m a n × Deep m a × Noted lost a lost') r e (c, d, t) in
+    subst (λ y. FetchFails b place y m vs n vs × Held n lost' vs) p.1
+    (record { call = word_cached vs p.2.0; deep = ap one_deeper p.2.1 }, held_word p.0 p.2.2 h p.2.0)
+
 -- the first read below went well: the store is up and has the word, and no line has the block
 pub record First (m : Meaning) (lost : Bool) (vs : List View) (b place : ℕ) (n : Meaning) : Type 0 where
   pub same : n ≡ m
@@ -39,22 +50,23 @@ pub record First (m : Meaning) (lost : Bool) (vs : List View) (b place : ℕ) (n
 pub first_ok : {m n : Meaning} {lost lost' : Bool} {vs : List View} {x : ℕ} (b place : ℕ) (r : Result ℕ Fault)
     → m.granted 0 ≡ false → Ok x ≡ raised r → Get b place m r n → Noted lost r lost' → Held m lost vs → Hits lost vs b place None
     → First m lost' vs b place n
-first_ok b place (Err f) g0 e c t h k = let q : ◌≡◌ {A = ℕ} 0 1 = cc in absurd (omega arith)
-first_ok {m} {n} {lost} {lost'} {vs} b place (Ok v) g0 e c t h k =
-    let b0 = not_zero m.granted b g0 c.granted in
+first_ok {m} {n} {lost} {lost'} {vs} b place r g0 e c t h k =
+    let p = was_ok (λ a. Get b place m a n × Noted lost a lost') r e (c, t) in
+    let d = p.0 in
+    let b0 = not_zero m.granted b g0 d.granted in
     record {
-      same = c.same;
-      within = c.within;
+      same = d.same;
+      within = d.within;
       missing = record {
-        up = ap (λ x. x.down) c.same ∙ c.was_up;
-        granted = ap (λ x. x.granted b) c.same ∙ c.granted;
+        up = ap (λ x. x.down) d.same ∙ d.was_up;
+        granted = ap (λ x. x.granted b) d.same ∙ d.granted;
         absent = λ j q.
             let long = (h.fits j (λ z. b0 (sym q ∙ z))).whole.wide in
-            let short = k (not_lost h c.was_up) b0 j q in
-            let in_it = c.within in
+            let short = k (not_lost h d.was_up) b0 j q in
+            let in_it = d.within in
             omega arith;
       };
-      held = held_same t c.same h;
+      held = held_same p.1 d.same h;
     }
 
 -- brought up after the first read

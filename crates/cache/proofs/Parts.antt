@@ -8,7 +8,6 @@ use Rattle.store.specs.Calls.{SetDone}
 use Rattle.store.specs.Laws.Changes.{with_at_from, block_same, block_written}
 use Rattle.cache.specs.Cache.{word_of}
 
-
 -- the first i words of a list, then other words
 unfoldable pub front : ℕ → List ℕ → (ℕ → ℕ) → ℕ → ℕ
 front i ws β p = cond (ltb p i) (get_or ws p 0) (β p)

@@ -2,11 +2,13 @@
 use Rattle.std.proofs.Common.{◌≡◌, ℕ, Bool, List, ◌∷◌, sym, ap, ◌∙◌, subst, ap₂, arith}
 use Rattle.store.specs.declared.fault.Fault.{Fault}
 use Rattle.store.specs.declared.fault.Refusal.{Refusal}
-use Rattle.store.specs.declared.fault.Refusal.TheVariants.{Down, NoRoom}
+use Rattle.store.specs.declared.fault.Refusal.TheVariants.{Down, NoRoom, NotGranted, Outside}
 use Rattle.store.specs.Faults.{number_of, one_deeper, deeper}
 use Rattle.store.specs.Meaning.{Meaning, Fell}
-use Rattle.store.specs.Calls.{Kept, TakeFails}
+use Rattle.store.specs.Calls.{Kept, WordFails, TakeFails, GiveFails}
+use Rattle.store.specs.Calls.WordFails.{word_down, word_missing, word_outside}
 use Rattle.store.specs.Calls.TakeFails.{take_down, take_full}
+use Rattle.store.specs.Calls.GiveFails.{give_down, give_missing}
 use Rattle.cache.specs.Lines.{View, NotedErr}
 use Rattle.cache.specs.Cache.{cached, cached_shape, Held}
 use Rattle.cache.specs.Steps.{Falls}
@@ -25,6 +27,15 @@ falls_cached vs ws q = record { refusal = q.refusal; fell = fell_cached vs ws q.
 
 kept_cached : {m n : Meaning} (vs : List View) → Kept m n → Kept (cached vs m) (cached vs n)
 kept_cached vs k = record { was_up = k.was_up; same = ap (cached vs) k.same }
+
+pub word_cached : {b place at : ℕ} {r : Refusal} {m n : Meaning} (vs : List View) → WordFails b place r at m n → WordFails b place r at (cached vs m) (cached vs n)
+word_cached vs (word_down e f) = word_down e (fell_cached vs vs f)
+word_cached vs (word_missing e a q k) = word_missing e a q (kept_cached vs k)
+word_cached vs (word_outside e a g l k) = word_outside e a g l (kept_cached vs k)
+
+pub give_cached : {b at : ℕ} {r : Refusal} {m n : Meaning} (vs : List View) → GiveFails b r at m n → GiveFails b r at (cached vs m) (cached vs n)
+give_cached vs (give_down e f) = give_down e (fell_cached vs vs f)
+give_cached vs (give_missing e a q k) = give_missing e a q (kept_cached vs k)
 
 pub take_cached : {at : ℕ} {r : Refusal} {m n : Meaning} (vs : List View) → TakeFails r at m n → TakeFails r at (cached vs m) (cached vs n)
 take_cached vs (take_down e f) = take_down e (fell_cached vs vs f)
@@ -46,6 +57,15 @@ other ne e d = ne (ap number_of (sym e ∙ d))
 module _ {m n : Meaning} {lost lost' : Bool} {vs : List View} (f : Fault) (t : NotedErr lost f lost') (h : Held m lost vs) where
   kept : {s : Refusal} → (number_of s ≡ 1 → ⊥) → f.refusal ≡ s → Kept m n → Held n lost' vs
   kept ne e k = held_same (t.kept (other ne e)) k.same h
+
+  pub held_word : {b place at : ℕ} → WordFails b place f.refusal at m n → Held n lost' vs
+  held_word (word_down e k) = held_falls t e k h
+  held_word (word_missing e a q k) = kept (λ (z : number_of NotGranted ≡ 1). omega arith) e k
+  held_word (word_outside e a g l k) = kept (λ (z : number_of Outside ≡ 1). omega arith) e k
+
+  pub held_give : {b at : ℕ} → GiveFails b f.refusal at m n → Held n lost' vs
+  held_give (give_down e k) = held_falls t e k h
+  held_give (give_missing e a q k) = kept (λ (z : number_of NotGranted ≡ 1). omega arith) e k
 
   pub held_take : {at : ℕ} → TakeFails f.refusal at m n → Held n lost' vs
   held_take (take_down e k) = held_falls t e k h

@@ -6,16 +6,17 @@ use Rattle.std.proofs.lemmas.List.{length-set, get_or-set_same, get_or-set_other
 use Rattle.store.specs.declared.fault.Fault.{Fault}
 use Rattle.store.specs.Faults.{one_deeper}
 use Rattle.store.specs.Layers.{raised}
-use Rattle.store.specs.Meaning.{Meaning, with_at, with_blocks, with_block, written}
-use Rattle.store.specs.Calls.{Take, TakeDone, Give, GiveDone, GetDone, SetDone, Deep}
+use Rattle.store.specs.Meaning.{Meaning, count, with_at, with_blocks, with_block, written}
+use Rattle.store.specs.Calls.{Take, TakeDone, Give, GiveDone, GiveFails, GetDone, SetDone, Deep}
 use Rattle.store.specs.Laws.Changes.{with_at_other, with_at_from}
 use Rattle.cache.specs.Lines.{View, nth, set_view, Noted, Clear}
 use Rattle.cache.specs.Cache.{word_of, over, cached, flat, Fits, Held}
 use Rattle.cache.specs.Steps.{FetchDone}
 use Rattle.cache.specs.Laws.Overlays.{not_zero, over_miss, over_hit}
+use Rattle.cache.proofs.Exits.{was_ok, was_err}
 use Rattle.cache.proofs.Overs.{Absent, within, apart_set, over_put, over_out, over_write}
 use Rattle.cache.proofs.Helds.{held_put, held_out, held_set}
-use Rattle.cache.proofs.Raises.{take_cached, held_take, held_same}
+use Rattle.cache.proofs.Raises.{take_cached, give_cached, held_take, held_give, held_same}
 
 -- lines that hold no block leave the words below as they are
 pub clear_over : (vs : List View) (m : Meaning) → m.granted 0 ≡ false → Clear vs → flat vs m ≡ m
@@ -55,13 +56,21 @@ module _ {m n : Meaning} {lost lost' : Bool} {vs : List View} (g0 : m.granted 0 
       rw e (done, tt, held_same t c.after (put_held m vs b true (λ p. 0) h g0 b0 a))
   took q (Err f) e c d t = rw e (take_cached vs c, ap one_deeper d, held_take f t h c)
 
+  -- a block was not given back
+  pub give_err : {x : Fault} (b : ℕ) (r : Result (Unit {0}) Fault) → Err x ≡ raised r → Give b m r n → Deep m r → Noted lost r lost'
+      → GiveFails b x.refusal x.block (cached vs m) (cached vs n) × (x.depth ≡ (cached vs m).shape.depth x.refusal (count m)) × Held n lost' vs
+  give_err {x} b r e c d t =
+      let p = was_err (λ a. Give b m a n × Deep m a × Noted lost a lost') r e (c, d, t) in
+      subst (λ y. GiveFails b y.refusal y.block (cached vs m) (cached vs n) × (y.depth ≡ (cached vs m).shape.depth y.refusal (count m)) × Held n lost' vs) p.1
+      (give_cached vs p.2.0, ap one_deeper p.2.1, held_give p.0 p.2.2 h p.2.0)
+
   -- a block was given back, and no line had it
   pub gave : {x : Unit {0}} (b : ℕ) (r : Result (Unit {0}) Fault) → Ok x ≡ raised r → Give b m r n → Noted lost r lost' → ((b ≡ 0 → ⊥) → Absent vs b) → GiveDone (cached vs m) b (cached vs n) × Held n lost' vs
-  gave b (Err f) e c t a = let q : ◌≡◌ {A = ℕ} 0 1 = cc in absurd (omega arith)
-  gave b (Ok y) e c t a =
-      let b0 = not_zero m.granted b g0 c.granted in (
-        record { was_up = c.was_up; granted = c.granted; after = ap (cached vs) c.after ∙ put_cached m vs b false (λ p. 0) h g0 b0 (a b0) },
-        held_same t c.after (put_held m vs b false (λ p. 0) h g0 b0 (a b0)),
+  gave b r e c t a =
+      let p = was_ok (λ y. Give b m y n × Noted lost y lost') r e (c, t) in
+      let b0 = not_zero m.granted b g0 p.0.granted in (
+        record { was_up = p.0.was_up; granted = p.0.granted; after = ap (cached vs) p.0.after ∙ put_cached m vs b false (λ _. 0) h g0 b0 (a b0) },
+        held_same p.1 p.0.after (put_held m vs b false (λ _. 0) h g0 b0 (a b0)),
       )
 
   -- line i had it
@@ -83,9 +92,9 @@ module _ {m n : Meaning} {lost lost' : Bool} {vs : List View} (g0 : m.granted 0 
 
     -- a block was given back, and line i had it
     pub gave_line : {x : Unit {0}} (b : ℕ) (r : Result (Unit {0}) Fault) → Ok x ≡ raised r → Give b m r n → Noted lost r lost' → (nth vs i).block ≡ b → GiveDone (cached vs m) b (cached (set vs i w) n) × Held n lost' (set vs i w)
-    gave_line b (Err f) e c t at_b = let q : ◌≡◌ {A = ℕ} 0 1 = cc in absurd (omega arith)
-    gave_line b (Ok y) e c t at_b =
-        subst (λ k. GiveDone m k n → GiveDone (cached vs m) k (cached (set vs i w) n) × Held n lost' (set vs i w)) at_b (λ d. gave_here d t) c
+    gave_line b r e c t at_b =
+        let p = was_ok (λ y. Give b m y n × Noted lost y lost') r e (c, t) in
+        subst (λ k. GiveDone m k n → GiveDone (cached vs m) k (cached (set vs i w) n) × Held n lost' (set vs i w)) at_b (λ d. gave_here d p.1) p.0
 
 module _ {m n : Meaning} {lost : Bool} {vs ws : List View} {b place i : ℕ} (g0 : n.granted 0 ≡ false) (f : FetchDone b place i m vs n ws) (h : Held n lost ws) where
   holds : (nth ws i).block ≡ 0 → ⊥

@@ -52,6 +52,8 @@ impl<S: Store> Cache<S> {
     }
 
     // Frees the line that was longest unused.
+    // Here and below a line is named by its number, which is in the table: of a line that were lent in the answer, the
+    // contract would have to tell its later value too.
     fn evict(&mut self) -> Result<usize, Fault>
         ensures within { IfOk result (λ i. i < vec_len self.new.table.lines) }
         ensures oldest { Oldest (ages self.old.table) result }
@@ -83,8 +85,7 @@ impl<S: Store> Cache<S> {
         if let Some(i) = self.table.hit(block, place) {
             return Ok(i);
         }
-        let first = self.store.get(block, place);
-        self.table.note(first)?;
+        self.table.note(self.store.get(block, place))?;
         self.bring(block)
     }
 }
@@ -97,13 +98,11 @@ impl<S: Store> Store for Cache<S> {
     ghost sound = { λ s r. cached_sound (S.Store.sound s.store r.0) r.1 };
 
     fn take(&mut self) -> Result<u32, Fault> {
-        let r = self.store.take();
-        self.table.note(r)
+        self.table.note(self.store.take())
     }
 
     fn give_back(&mut self, block: u32) -> Result<(), Fault> {
-        let r = self.store.give_back(block);
-        self.table.note(r)?;
+        self.table.note(self.store.give_back(block))?;
         if let Some(i) = self.table.find(block) {
             self.table.lines[i].clear();
         }
@@ -132,7 +131,6 @@ impl<S: Store> Store for Cache<S> {
     }
 
     fn stock(&mut self) -> Result<Stock, Fault> {
-        let r = self.store.stock();
-        self.table.note(r)
+        self.table.note(self.store.stock())
     }
 }

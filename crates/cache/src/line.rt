@@ -1,7 +1,8 @@
 // The lines of a cache.
 ghost use Rattle.std.specs.Prelude.{◌≤◌, vec_len, vec_capacity};
 
-// A block, 0 for none, and its words; whether they were set since they were last written below; when it was last used.
+// A block and its words; whether they were set since they were last written below; when it was last used.
+// `block` is 0 for none, not an `Option`: no store grants block 0, and a `Some(0)` would be a line that no search may find.
 #[derive(Drop)]
 pub struct Line {
     pub(crate) block: u32,

@@ -93,7 +93,7 @@ impl LineTable {
         self.lines.iter().position(|line| line.block == block)
     }
 
-    // The line that was longest unused.
+    // The line that was longest unused, and the first of those; there is one, so the 0 is never taken.
     pub(crate) fn oldest(&self) -> usize
         ensures within { result < vec_len self.now.lines }
         ensures least { (k : ℕ) → k < vec_len self.now.lines → slice_index (ages self.now) result ≤ slice_index (ages self.now) k }

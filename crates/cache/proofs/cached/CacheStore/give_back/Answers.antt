@@ -1,18 +1,39 @@
 use Rattle.std.proofs.Common.{◌≡◌, ℕ, ◌<◌, length, set, sym, refl, ap, ◌∙◌, subst, arith}
 use Rattle.std.proofs.lemmas.List.{length-map}
-use Rattle.store.specs.Calls.{GiveDone}
+use Rattle.store.specs.Calls.{GiveFails, GiveDone}
 use Rattle.cache.specs.Lines.{view, views, nth, table_views, free_view}
 use Rattle.cache.specs.Cache.{cached, Held}
 use Rattle.cache.proofs.TableLines.{line_set, block_at}
-use Rattle.cache.proofs.Services.{gave, gave_line}
+use Rattle.cache.proofs.Services.{give_err, gave, gave_line}
+use Rattle.cache.proofs.Exits.{at_exit}
 use Rattle.cache.proofs.cached.CacheStore.give_back.Goals as goal
+
+pub returns-in_err-note-clause-keeps : goal.returns-in_err-note-clause-keeps
+returns-in_err-note-clause-keeps g c =
+    rw (at_exit _ _ c.from_residual.ensures)
+    (λ r.
+    let s = c.args.self.now in
+    let b = c.args.block in
+    let m = g.S.Store.meaning s.store in
+    let n = g.S.Store.meaning c.give_back.new.self in
+    let vs = table_views s.table in
+    let x = c.in_err-note.field-0.0 in
+    let ve : table_views c.note.new.self ≡ vs = ap (λ l. views l.items) c.note.ensures.lines in
+    let law = g.S.Store.sound s.store r.0 in
+    let e = c.give_back.ensures.keeps r.0 in
+    let all = give_err law.none_at_zero r.1 b c.give_back.result c.in_err-note.ensures.answer e.call e.deep c.note.ensures.lost in
+    record {
+      call = subst (λ us. GiveFails b x.refusal x.block (cached vs m) (cached us n)) (sym ve) all.0;
+      deep = all.1;
+      ready = (e.ready, subst (Held n c.note.new.self.lost) (sym ve) all.2);
+    })
 
 pub returns-in-Some-clause-keeps : goal.returns-in-Some-clause-keeps
 returns-in-Some-clause-keeps g c r =
     let s = c.args.self.now in
     let b = c.args.block in
     let m = g.S.Store.meaning s.store in
-    let n = g.S.Store.meaning c.give_back-r.new.self in
+    let n = g.S.Store.meaning c.give_back.new.self in
     let vs = table_views s.table in
     let i = c.in-Some.i in
     let t = c.note.new.self in
@@ -23,8 +44,8 @@ returns-in-Some-clause-keeps g c r =
     let ue = line_set t.lines.items i c.index_mut.result.now c.clear.new.self free_view (omega (arith, hit.0, length-map t.lines.items view)) c.index_mut.ensures.value c.clear.ensures
     ∙ ap (λ us. set us i (free_view (nth us i))) ve in
     let law = g.S.Store.sound s.store r.0 in
-    let e = c.give_back-r.ensures.keeps r.0 in
-    let all = gave_line law.none_at_zero r.1 i (free_view (nth vs i)) l refl b c.give_back-r.result c.in_ok-note.ensures.answer e.call c.note.ensures.lost at_b in
+    let e = c.give_back.ensures.keeps r.0 in
+    let all = gave_line law.none_at_zero r.1 i (free_view (nth vs i)) l refl b c.give_back.result c.in_ok-note.ensures.answer e.call c.note.ensures.lost at_b in
     record {
       call = subst (λ us. GiveDone (cached vs m) b (cached us n)) (sym ue) all.0;
       deep = tt;
@@ -36,13 +57,13 @@ returns-in_default-clause-keeps g c r =
     let s = c.args.self.now in
     let b = c.args.block in
     let m = g.S.Store.meaning s.store in
-    let n = g.S.Store.meaning c.give_back-r.new.self in
+    let n = g.S.Store.meaning c.give_back.new.self in
     let vs = table_views s.table in
     let ve : table_views c.note.new.self ≡ vs = ap (λ l. views l.items) c.note.ensures.lines in
     let none = subst (λ us. (b ≡ 0 → ⊥) → (k : ℕ) → (nth us k).block ≡ b → ⊥) ve c.in_default.ensures in
     let law = g.S.Store.sound s.store r.0 in
-    let e = c.give_back-r.ensures.keeps r.0 in
-    let all = gave law.none_at_zero r.1 b c.give_back-r.result c.in_ok-note.ensures.answer e.call c.note.ensures.lost none in
+    let e = c.give_back.ensures.keeps r.0 in
+    let all = gave law.none_at_zero r.1 b c.give_back.result c.in_ok-note.ensures.answer e.call c.note.ensures.lost none in
     record {
       call = subst (λ us. GiveDone (cached vs m) b (cached us n)) (sym ve) all.0;
       deep = tt;
