@@ -1,4 +1,4 @@
 pub mod Ones
 pub mod Sinks
 pub mod Runs
-pub mod PageRuns
+pub mod Lined

@@ -1,15 +1,14 @@
 -- What `use_one` leaves.
-use Rattle.std.proofs.Common.{◌≡◌, ℕ, ◌≤◌, true, Ok, Err, Result, refl, ap, ◌∙◌, arith}
+use Rattle.std.proofs.Common.{◌≡◌, ℕ, ◌≤◌, true, Ok, Err, Result, IsErrAnd, sym, ap, ◌∙◌, subst, arith}
 use Rattle.std.proofs.lemmas.Bool.{both_ways}
 use Rattle.store.specs.declared.fault.Fault.{Fault}
 use Rattle.store.specs.declared.fault.Refusal.TheVariants.{Down}
 use Rattle.store.specs.Meaning.{Meaning, Sound, Fell, count, taken, written, with_at}
-use Rattle.store.specs.Calls.{Get, Deep, TakeDone, TakeFails, SetDone, WordFails}
-use Rattle.store.specs.Calls.TakeFails.{take_down, take_full}
+use Rattle.store.specs.Calls.{Get, Deep, TakeDone, SetDone, WordFails}
 use Rattle.store.specs.Calls.WordFails.{word_down, word_missing, word_outside}
 use Rattle.store.specs.Laws.Changes.{with_at_here}
 use Rattle.piles.specs.One.{Use, UseFails, UseLost, with_one}
-use Rattle.piles.specs.One.UseFails.{use_full, use_lost}
+use Rattle.piles.specs.One.UseFails.{use_lost}
 
 -- a fall some calls later, with the shape and the stores below as they were
 fallen : (m k n : Meaning) (f : Fault) → k.shape ≡ m.shape → k.below ≡ m.below → f.refusal ≡ Down → f.depth ≡ k.shape.depth f.refusal (count k) → Fell k n → UseLost m.shape f m n
@@ -22,18 +21,6 @@ fallen m k n f s b e d l = record {
   same_below = l.same_below ∙ b;
 }
 
-pub not_taken : (m n : Meaning) (f : Fault) → TakeFails f.refusal f.block m n → f.depth ≡ m.shape.depth f.refusal (count m) → UseFails m.shape f m n
-not_taken m n f (take_down e l) d = use_lost (fallen m m n f refl refl e d l)
-not_taken m n f (take_full e z h k) d =
-    use_full (record {
-      refusal = e;
-      block = z;
-      depth = d ∙ ap (λ r. m.shape.depth r (count m)) e;
-      was_up = k.was_up;
-      no_room = h;
-      same = k.same;
-    })
-
 -- a call for the first word of a block just taken is refused only by 'down'
 not_word : (m k n : Meaning) (b : ℕ) (f : Fault) → 1 ≤ m.shape.width → k.shape ≡ m.shape → k.below ≡ m.below → k.granted b ≡ true → WordFails b 0 f.refusal f.block k n → f.depth ≡ k.shape.depth f.refusal (count k) → UseFails m.shape f m n
 not_word m k n b f w s e g (word_down r l) d = use_lost (fallen m k n f s e r d l)
@@ -44,8 +31,11 @@ module _ {m k : Meaning} {b : ℕ} (s : Sound m) (t : TakeDone m b k) where
   granted_now : k.granted b ≡ true
   granted_now = ap (λ z. z.granted b) t.after ∙ with_at_here m.granted b true
 
-  pub not_set : (n : Meaning) (f : Fault) → WordFails b 0 f.refusal f.block k n → f.depth ≡ k.shape.depth f.refusal (count k) → UseFails m.shape f m n
-  not_set n f w d = not_word m k n b f s.some_width (ap (λ z. z.shape) t.after) (ap (λ z. z.below) t.after) granted_now w d
+  pub not_set : (x : ℕ) (r : Result ℕ Fault) (n : Meaning) (f : Fault) → IsErrAnd r (λ y. y ≡ f) → WordFails b 0 f.refusal f.block k n → f.depth ≡ k.shape.depth f.refusal (count k) → Use m.shape x m r n
+  not_set x (Ok v) n f e w d = absurd e
+  not_set x (Err y) n f e w d =
+      subst (λ g. UseFails m.shape g m n) (sym e)
+      (not_word m k n b f s.some_width (ap (λ z. z.shape) t.after) (ap (λ z. z.below) t.after) granted_now w d)
 
   module _ (x : ℕ) (j : Meaning) (u : SetDone k b 0 x j) where
     both : j ≡ with_one x m b

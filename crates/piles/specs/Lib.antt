@@ -1,3 +1,4 @@
 pub mod One
+pub mod Lined
 pub mod Runs
 pub mod Pages

@@ -46,3 +46,8 @@ pub data UseFails (top : Shape) (f : Fault) (m n : Meaning) : Type 0 where
 abbrev pub Use : Shape → ℕ → Meaning → Result ℕ Fault → Meaning → Type 0
 Use top x m (Ok v) n = UseDone top x m v n
 Use top x m (Err f) n = UseFails top f m n
+
+-- an answer, its fault taken for a cause
+abbrev pub caused_by : {E : Type 0} → (Fault → E) → Result ℕ Fault → Result ℕ E
+caused_by cause (Ok v) = Ok v
+caused_by cause (Err f) = Err (cause f)

@@ -2,6 +2,7 @@
 #![tactic(auto)]
 
 pub mod caches;
+mod fresh;
 pub mod one;
 pub mod pages;
 pub mod quotas;

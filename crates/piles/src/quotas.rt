@@ -4,59 +4,35 @@ ghost use Rattle.quota.specs.Quota.{quota_shape};
 ghost use Rattle.piles.specs.One.{Use};
 ghost use Rattle.piles.specs.Runs.{TwoQuotas};
 
-use crate::one::{Used, use_one};
+use crate::fresh::over_fresh;
+use crate::one::{Ended, use_one};
 use quota::quota::Quota;
 use store::blocks::Store;
 use store::fault::Fault;
-use stores::table::{Runs, TableStore, Unfit};
-
-// What was answered, and the lent runs handed back.
-#[derive(Drop)]
-pub struct Ended<'a> {
-    pub answer: Result<u64, Fault>,
-    pub runs: Runs<'a>,
-}
+use stores::lent::Runs;
+use stores::table::Rows;
 
 // Puts a word into a block of a fresh table store under a quota of q blocks and one of p above it, then ends all.
 pub fn two_quotas<'a>(
-    words: &'a mut [u64],
-    marks: &'a mut [u8],
+    runs: Runs<'a, Rows>,
     width: u32,
     p: u64,
     q: u64,
     word: u64,
-) -> Ended<'a>
-    ensures { TwoQuotas p q width word marks.old words.old result.answer result.runs.marks.now result.runs.words.now }
+) -> Ended<Fault, Runs<'a, Rows>>
+    ensures { TwoQuotas p q width word runs.entry result.answer result.back }
 {
-    match TableStore::fresh(words, marks, width) {
-        Err(
-            Unfit {
-                fault,
-                words,
-                marks,
-            },
-        ) => Ended {
-            answer: Err(fault),
-            runs: Runs { words, marks },
-        },
-        Ok(store) => {
-            let Used { answer, store } = under_two(store, p, q, word);
-            Ended {
-                answer,
-                runs: store.into_runs(),
-            }
-        }
-    }
+    over_fresh(runs, width, |store| under_two(store, p, q, word))
 }
 
 // Uses one block of a store through a quota of q blocks and one of p above it.
-pub fn under_two<S: Store>(store: S, p: u64, q: u64, word: u64) -> Used<S>
-    ensures { S.ready store → Left (Use (quota_shape p (quota_shape q (S.meaning store).shape)) word (S.meaning store) result.answer (S.meaning result.store)) (S.ready result.store) }
+pub fn under_two<S: Store>(store: S, p: u64, q: u64, word: u64) -> Ended<Fault, S>
+    ensures { S.ready store → Left (Use (quota_shape p (quota_shape q (S.meaning store).shape)) word (S.meaning store) result.answer (S.meaning result.back)) (S.ready result.back) }
 {
-    let Used { answer, store } = use_one(Quota::new(Quota::new(store, q), p), word);
-    Used {
+    let Ended { answer, back } = use_one(Quota::new(Quota::new(store, q), p), word);
+    Ended {
         answer,
-        store: store.end().end(),
+        back: back.end().end(),
     }
 }
 
@@ -64,14 +40,21 @@ pub fn under_two<S: Store>(store: S, p: u64, q: u64, word: u64) -> Used<S>
 mod tests {
     use super::*;
 
+    fn runs<'a>(words: &'a mut [u64], marks: &'a mut [u8]) -> Runs<'a, Rows> {
+        Runs {
+            words,
+            marks,
+            layout: Rows,
+        }
+    }
+
     // The answer under quotas p and q over room for three blocks, as a word or as the depth of the refusal.
     fn answer(p: u64, q: u64) -> Result<u64, u64> {
         let mut words = [9; 7];
         let mut marks = [1; 4];
-        match two_quotas(&mut words, &mut marks, 2, p, q, 5).answer {
-            Ok(word) => Ok(word),
-            Err(fault) => Err(fault.depth),
-        }
+        two_quotas(runs(&mut words, &mut marks), 2, p, q, 5)
+            .answer
+            .map_err(|fault| fault.depth)
     }
 
     #[test]
@@ -85,7 +68,7 @@ mod tests {
     fn leaves_word(rt: HostRuntime) {
         let mut words = [9; 7];
         let mut marks = [1; 4];
-        let Ended { answer: _, runs } = two_quotas(&mut words, &mut marks, 2, 3, 3, 5);
+        let runs = two_quotas(runs(&mut words, &mut marks), 2, 3, 3, 5).back;
         assert!(rt; runs.words.len() == 7);
         assert_eq!(rt; runs.words[0], 5);
         assert_eq!(rt; runs.words[1], 0);

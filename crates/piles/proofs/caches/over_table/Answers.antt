@@ -1,23 +1,11 @@
-use Rattle.std.proofs.Common.{◌≤◌, sym, ap, subst}
-use Rattle.piles.specs.Runs.{Cached}
-use Rattle.piles.specs.Runs.RunsFail.{runs_unfit}
-use Rattle.piles.proofs.Runs.{run_cached}
+use Rattle.std.proofs.Common.{refl, rules, of_calls}
+use Rattle.quota.specs.Quota.{quota_shape}
+use Rattle.cache.specs.Cache.{cached_shape}
+use Rattle.piles.specs.Runs.{rows}
+use Rattle.piles.proofs.Runs.{ran, piled}
 use Rattle.piles.proofs.caches.over_table.Goals as goal
 
-pub returns-in-Err : goal.returns-in-Err
-returns-in-Err c j =
-    let u = c.in-Err.ensures in
-    runs_unfit (record { no_width = u.no_width; fault = u.fault; same_marks = u.marks_left; same_words = u.words_left })
-
-pub returns-in-Ok : goal.returns-in-Ok
-returns-in-Ok c j =
-    let f = c.in-Ok.ensures in
-    let t = c.through_cache-answer.ensures f.ready j in
-    let s = c.through_cache-answer.result.store in
-    let r = c.through_cache-answer.result.answer in
-    let w = ap (λ m. m.shape.width) f.same in
+pub returns : goal.returns
+returns c j =
     let a = c.args in
-    subst (λ ms. Cached a.p a.width a.word a.marks.now a.words.now r ms c.into_runs.result.words.now) (sym c.into_runs.ensures.marks)
-    (subst (λ ws. Cached a.p a.width a.word a.marks.now a.words.now r s.marks.now ws) (sym c.into_runs.ensures.words)
-    (run_cached a.p a.width a.word a.marks.now a.words.now s.width s.capacity s.granted s.marks.now s.words.now
-    (subst (λ k. 1 ≤ k) w f.ready.wide) (subst (λ k. k ≤ 512) w f.ready.narrow) t.ready r _ f.same t.call))
+    ran rows (λ f. f) (λ s. quota_shape a.p (cached_shape s)) a.width a.word _ a.runs refl (λ s t h k. search (rules, of_calls, piled)) c.over_fresh.ensures

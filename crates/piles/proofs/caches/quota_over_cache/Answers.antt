@@ -1,19 +1,10 @@
-use Rattle.std.proofs.Common.{◌≤◌, sym, subst}
-use Rattle.piles.specs.Runs.{QuotaCache}
-use Rattle.piles.proofs.Runs.{not_made, ran_cached}
+use Rattle.std.proofs.Common.{rules, of_calls}
+use Rattle.piles.specs.Lined.{Unmaking}
+use Rattle.piles.specs.Runs.{Cached}
+use Rattle.piles.proofs.Lined.{with_made, unmade}
 use Rattle.piles.proofs.caches.quota_over_cache.Goals as goal
 
-pub returns-in-Err : goal.returns-in-Err
-returns-in-Err c =
+pub returns : goal.returns
+returns c =
     let a = c.args in
-    not_made a.p a.lines a.width a.word a.marks.now a.words.now c.in-Err.why c.in-Err.ensures
-
-pub returns-in-Ok : goal.returns-in-Ok
-returns-in-Ok c =
-    let a = c.args in
-    let m = c.in-Ok.ensures in
-    let o = c.over_table-answer.result in
-    subst (λ r. QuotaCache a.p a.lines a.width a.word a.marks.now a.words.now r o.runs.marks.now o.runs.words.now) (sym c.unmade_by.ensures)
-    (ran_cached a.p a.lines a.width a.word a.marks.now a.words.now o.runs.marks.now o.runs.words.now
-    (record { some = subst (λ k. 1 ≤ k) m.lines c.in-Ok.table.some; few = subst (λ k. k ≤ 16) m.lines c.in-Ok.table.few })
-    o.answer (c.over_table-answer.ensures m.unused))
+    with_made (λ s b. Unmaking (λ f. Cached a.p a.width a.word a.runs f b) s) a.runs (λ t u k. search (rules, of_calls, unmade)) c.with_lines.ensures

@@ -1,20 +1,9 @@
-use Rattle.std.proofs.Common.{◌≤◌, Err, sym, subst}
-use Rattle.piles.specs.Pages.{Pages, LinesPages}
-use Rattle.piles.proofs.PageRuns.{no_lines_made, lines_made}
+use Rattle.std.proofs.Common.{rules, of_calls}
+use Rattle.piles.specs.Pages.{OverPages}
+use Rattle.piles.proofs.Lined.{with_made}
 use Rattle.piles.proofs.pages.cache_over_quota_over_paged.Goals as goal
 
-pub returns-in-Err : goal.returns-in-Err
-returns-in-Err c =
+pub returns : goal.returns
+returns c =
     let a = c.args in
-    let start : Pages = record { map = a.map.now; marks = a.marks.now; words = a.words.now } in
-    subst (λ e. LinesPages a.q a.lines a.width a.word start (Err e) start) (sym c.as_cause.ensures)
-    (no_lines_made a.q a.lines a.width a.word start c.in-Err.why c.in-Err.ensures)
-
-pub returns-in-Ok : goal.returns-in-Ok
-returns-in-Ok c =
-    let a = c.args in
-    let m = c.in-Ok.ensures in
-    let o = c.over_paged.result.runs in
-    lines_made a.q a.lines a.width a.word (record { map = a.map.now; marks = a.marks.now; words = a.words.now }) (record { map = o.map.now; marks = o.marks.now; words = o.words.now })
-    (record { some = subst (λ k. 1 ≤ k) m.lines c.in-Ok.table.some; few = subst (λ k. k ≤ 16) m.lines c.in-Ok.table.few })
-    c.over_paged.result.answer (c.over_paged.ensures m.unused)
+    with_made (λ s b. OverPages a.q a.width a.word a.runs s b) a.runs (λ t u k. search (rules, of_calls)) c.with_lines.ensures

@@ -13,7 +13,7 @@ returns g c h j =
     let x = c.args.word in
     let r = c.cached_one-answer.result.answer in
     let top = c.new.result in
-    let out = c.cached_one-answer.result.store in
+    let out = c.cached_one-answer.result.back in
     let u = c.cached_one-answer.ensures (subst g.S.Store.ready (sym c.new.ensures.below) h) j in
     let v = below_quota x q top.limit out.limit (M top.store) (M out.store) r c.new.ensures.limit u.call in
     subst (λ s. Left (Use (cached_shape (quota_shape q (M c.args.store).shape)) x (M c.args.store) r (M s)) (g.S.Store.ready s)) (sym c.end.ensures)
