@@ -77,40 +77,40 @@ fn over<S: Store + Drop>(
             drop(quota.end());
             Ok(())
         }),
-        Layers::Cache(lines) => match LineTable::new(heap, lines) {
-            Ok(table) => answers(heap, Cache::new(store, table), calls, |cache, session| {
+        Layers::Cache(lines) => cached(heap, lines, |table| {
+            answers(heap, Cache::new(store, table), calls, |cache, session| {
                 read_below(cache.close(), session).1
-            }),
-            Err(_) => no_cache(heap),
-        },
-        Layers::QuotaOverCache(limit, lines) => match LineTable::new(heap, lines) {
-            Ok(table) => answers(
-                heap,
-                Quota::new(Cache::new(store, table), limit),
-                calls,
-                |quota, session| read_below(quota.end().close(), session).1,
-            ),
-            Err(_) => no_cache(heap),
-        },
-        Layers::CacheOverQuota(lines, limit) => match LineTable::new(heap, lines) {
-            Ok(table) => answers(
-                heap,
-                Cache::new(Quota::new(store, limit), table),
-                calls,
-                |cache, session| {
-                    let (quota, read) = read_below(cache.close(), session);
-                    drop(quota.end());
-                    read
-                },
-            ),
-            Err(_) => no_cache(heap),
-        },
+            })
+        }),
+        Layers::QuotaOverCache(limit, lines) => cached(heap, lines, |table| {
+            let pile = Quota::new(Cache::new(store, table), limit);
+            answers(heap, pile, calls, |quota, session| {
+                read_below(quota.end().close(), session).1
+            })
+        }),
+        Layers::CacheOverQuota(lines, limit) => cached(heap, lines, |table| {
+            let pile = Cache::new(Quota::new(store, limit), table);
+            answers(heap, pile, calls, |cache, session| {
+                let (quota, read) = read_below(cache.close(), session);
+                drop(quota.end());
+                read
+            })
+        }),
     }
 }
 
-// No cache of so many lines can be made.
-fn no_cache(heap: Global) -> Result<String, AllocError> {
-    String::from_str(heap, "no such cache\n")
+// What a pile answers that needs a table of so many lines.
+fn cached<F: FnOnce(LineTable) -> Result<String, AllocError>>(
+    heap: Global,
+    lines: u32,
+    pile: F,
+) -> Result<String, AllocError>
+    requires { F.IsAlwaysCallable pile }
+{
+    match LineTable::new(heap, lines) {
+        Ok(table) => pile(table),
+        Err(_) => String::from_str(heap, "no such cache\n"),
+    }
 }
 
 // What the layers answer over a fresh table store.
