@@ -5,10 +5,10 @@ use Rattle.store.specs.declared.fault.Fault.{Fault}
 use Rattle.store.specs.declared.fault.Refusal.{Refusal}
 use Rattle.store.specs.declared.fault.Refusal.TheVariants.{Down}
 use Rattle.store.specs.Meaning.{Meaning, Fell, count, with_at}
-use Rattle.store.specs.Calls.{WordFails, SetDone, Get, Set, Deep, Lost}
+use Rattle.store.specs.Calls.{WordFails, SetDone, Set, Deep, Lost}
 use Rattle.store.specs.Calls.WordFails.{word_down, word_missing, word_outside}
 use Rattle.copies.specs.Work.{Work}
-use Rattle.copies.specs.Blocks.{Word, Read, Edited, edit}
+use Rattle.copies.specs.Blocks.{Word, Edited, edit}
 
 err_is : {T E : Type 0} (r : Result T E) (e : E) → IsErrAnd r (λ y. y ≡ e) → r ≡ Err e
 err_is (Ok x) e h = absurd h
@@ -78,11 +78,6 @@ fails_at {r} {at} {m} {n} {b} {p} {b'} {p'} h d e = subst (λ z. WordFails z p r
 pub set_work_at : (m n : Meaning) (b p x : ℕ) {b' p' x' : ℕ} (r : Result (Unit {0}) Fault) → Set b' p' x' m r n → Deep m r → b' ≡ b → p' ≡ p → x' ≡ x → Work (Word b p) (Edited b (λ β. with_at β p x)) m r n
 set_work_at m n b p x (Ok _) h k d e f = λ _. set_at m n b p x h d e f
 set_work_at m n b p x (Err y) h k d e f = λ q. word_lost q (fails_at h d e) k
-
--- a word read, as work
-pub get_work : (m n : Meaning) (b p : ℕ) (r : Result ℕ Fault) → Get b p m r n → Deep m r → Work (Word b p) (Read b p) m r n
-get_work m n b p (Ok v) h d = λ k. record { value = h.value; same = h.same }
-get_work m n b p (Err f) h d = λ k. word_lost k h d
 
 -- work that goes on from m, where other work had come to from l
 pub work_on : {A : Type 0} (P Q : Meaning → Type 0) (D E : Meaning → A → Meaning → Type 0) (l m n : Meaning) (r : Result A Fault) → (P l → Q m) → (P l → Kin l m) → ((a : A) → P l → E m a n → D l a n) → Work Q E m r n → Work P D l r n

@@ -1,18 +1,8 @@
 -- Parts of an entry read from its block.
 use Rattle.std.proofs.Common.{◌≡◌, ℕ, ◌+◌, ◌<◌, ◌≤◌, List, length, get_or, ap, ◌∙◌, arith}
 use Rattle.std.proofs.lemmas.List.FromFn.{fill_by_all}
-use Rattle.store.specs.Meaning.{Meaning}
-use Rattle.copies.specs.Blocks.{Read}
-use Rattle.nodes.specs.Places.{Form, weight_at, key_at, child_at}
-use Rattle.nodes.specs.Nodes.{entry_at, Weighs, Leads}
-
-pub weight_read : (b i a : ℕ) (m : Meaning) (v : ℕ) (n : Meaning) → a ≡ weight_at i → Read b a m v n → Weighs b i m v n
-unfolding entry_at
-weight_read b i a m v n e h = record { value = λ φ. h.value ∙ ap (m.words b) e; same = h.same }
-
-pub child_read : (φ : Form) (b i a : ℕ) (m : Meaning) (v : ℕ) (n : Meaning) → a ≡ child_at φ i → Read b a m v n → Leads φ b i m v n
-unfolding entry_at
-child_read φ b i a m v n e h = record { value = h.value ∙ ap (m.words b) e; same = h.same }
+use Rattle.nodes.specs.Places.{Form, key_at}
+use Rattle.nodes.specs.Nodes.{entry_at}
 
 -- all of them: the key's words
 pub read_all : {K : Type 0} (unpacked : List ℕ → K) (φ : Form) (i n : ℕ) (β : ℕ → ℕ) (ws : List ℕ) (x : K) → length ws ≡ φ.words → φ.words ≤ n → ((y : ℕ) → y < n → get_or ws y 0 ≡ β (key_at φ i + y)) → x ≡ unpacked ws → x ≡ unpacked (entry_at φ β i).key

@@ -56,7 +56,3 @@ carry_same φ from i to j n l m o e h = h ∙ ap (λ z. edit z to (carried φ (z
 -- the same of a copy at these places
 pub carry_at : (φ : Form) (from i to j n : ℕ) {i' j' n' : ℕ} (l m o : Meaning) → m ≡ l → Carried φ from i' to j' n' m tt o → i' ≡ i → j' ≡ j → n' ≡ n → o ≡ edit l to (carried φ (l.words from) i j n)
 carry_at φ from i to j n l m o e h a b c = carry_same φ from _ to _ _ l m o e h ∙ (λ z. edit l to (carried φ (l.words from) (a z) (b z) (c z)))
-
--- an edit after a read
-pub edit_same : (b : ℕ) (F : (ℕ → ℕ) → ℕ → ℕ) (l m o : Meaning) → m ≡ l → o ≡ edit m b F → o ≡ edit l b F
-edit_same b F l m o e h = h ∙ ap (λ z. edit z b F) e

@@ -42,6 +42,7 @@ fn put_entry<K: Key, S: Store>(
 }
 
 // Writes an entry over the one at place i.
+#[tactic(auto, using(crate::proofs::Lists::replace_holds))]
 pub fn replace_entry<K: Key, S: Store>(
     store: &mut S,
     block: u32,

@@ -26,6 +26,7 @@ pub fn count<S: Store>(store: &mut S, block: u32) -> Result<u32, Fault>
 }
 
 // The weight of entry i.
+#[tactic(auto, unfolding(crate::specs::Nodes::entry_at))]
 pub fn entry_weight<S: Store>(store: &mut S, block: u32, i: u32) -> Result<u64, Fault>
     requires { i < 80 }
     ensures { Leaves S.meaning S.ready (Work (Word block (weight_at i)) (Weighs block i)) store.old result store.new }
@@ -48,6 +49,7 @@ pub fn entry_key<K: Key, S: Store>(store: &mut S, block: u32, i: u32) -> Result<
 }
 
 // The child or handle of entry i.
+#[tactic(auto, using(crate::proofs::Rooms::room_place), unfolding(crate::specs::Nodes::entry_at))]
 pub fn entry_child<K: Key, S: Store>(store: &mut S, block: u32, i: u32) -> Result<u64, Fault>
     requires { i < 80 }
     ensures { Leaves S.meaning S.ready (Work (Room (form K.width) block) (Leads (form K.width) block i)) store.old result store.new }
