@@ -1,4 +1,3 @@
 pub mod Ones
-pub mod Sinks
 pub mod Runs
 pub mod Lined

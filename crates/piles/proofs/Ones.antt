@@ -1,5 +1,5 @@
 -- What `use_one` leaves.
-use Rattle.std.proofs.Common.{◌≡◌, ℕ, ◌≤◌, true, Ok, Err, Result, IsErrAnd, sym, ap, ◌∙◌, subst, arith}
+use Rattle.std.proofs.Common.{◌≡◌, ℕ, ◌≤◌, true, Ok, Err, Result, ap, ◌∙◌, arith}
 use Rattle.std.proofs.lemmas.Bool.{both_ways}
 use Rattle.store.specs.declared.fault.Fault.{Fault}
 use Rattle.store.specs.declared.fault.Refusal.TheVariants.{Down}
@@ -31,11 +31,8 @@ module _ {m k : Meaning} {b : ℕ} (s : Sound m) (t : TakeDone m b k) where
   granted_now : k.granted b ≡ true
   granted_now = ap (λ z. z.granted b) t.after ∙ with_at_here m.granted b true
 
-  pub not_set : (x : ℕ) (r : Result ℕ Fault) (n : Meaning) (f : Fault) → IsErrAnd r (λ y. y ≡ f) → WordFails b 0 f.refusal f.block k n → f.depth ≡ k.shape.depth f.refusal (count k) → Use m.shape x m r n
-  not_set x (Ok v) n f e w d = absurd e
-  not_set x (Err y) n f e w d =
-      subst (λ g. UseFails m.shape g m n) (sym e)
-      (not_word m k n b f s.some_width (ap (λ z. z.shape) t.after) (ap (λ z. z.below) t.after) granted_now w d)
+  pub not_set : (n : Meaning) (f : Fault) → WordFails b 0 f.refusal f.block k n → f.depth ≡ k.shape.depth f.refusal (count k) → UseFails m.shape f m n
+  not_set n f w d = not_word m k n b f s.some_width (ap (λ z. z.shape) t.after) (ap (λ z. z.below) t.after) granted_now w d
 
   module _ (x : ℕ) (j : Meaning) (u : SetDone k b 0 x j) where
     both : j ≡ with_one x m b

@@ -39,6 +39,7 @@ pub fn use_one<S: Store>(mut store: S, word: u64) -> Ended<Fault, S>
     }
 }
 
+#[tactic(auto, using(crate::proofs::Ones::not_set, crate::proofs::Ones::one_used))]
 fn one_word<S: Store>(store: &mut S, word: u64) -> Result<u64, Fault>
     ensures { S.ready store.old → Left (Use (S.meaning store.old).shape word (S.meaning store.old) result (S.meaning store.new)) (S.ready store.new) }
 {

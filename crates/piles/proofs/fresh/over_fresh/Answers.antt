@@ -1,4 +1,4 @@
-use Rattle.std.proofs.Common.{refl}
+use Rattle.std.proofs.Common.{refl, rules}
 use Rattle.piles.specs.Runs.OverFresh.{not_made, made}
 use Rattle.piles.proofs.fresh.over_fresh.Goals as goal
 
@@ -7,7 +7,7 @@ returns-in-Ok g c =
     let i = c.into_runs.ensures in
     made (record {
       store = _;
-      fresh = c.in-Ok.ensures;
+      fresh = search rules;
       ended = _;
       post = c.step-answer.ensures;
       same_answer = refl;
