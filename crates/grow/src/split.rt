@@ -20,17 +20,9 @@ pub fn divide<K: Key, S: Store>(store: &mut S, way: Way, low: K) -> Result<(), F
     let halves: Halves<K> = halve(store, way.child)?;
     let fresh = store.take()?;
     move_tail::<K, S>(store, child, fresh, halves.kept)?;
-    let right = Entry {
-        weight: halves.right,
-        key: halves.key,
-        child: fresh as u64,
-    };
+    let right = Entry::of_child(halves.right, halves.key, fresh);
     insert_entry(store, way.parent, way.place + 1, &right)?;
-    let left = Entry {
-        weight: halves.left,
-        key: low,
-        child: child as u64,
-    };
+    let left = Entry::of_child(halves.left, low, child);
     replace_entry(store, way.parent, way.place, &left)
 }
 
@@ -39,11 +31,7 @@ pub fn settle<K: Key, S: Store>(store: &mut S, way: Way, key: K) -> Result<Mark,
     let weight = entry_weight(store, way.parent, way.place)?;
     let low = entry_key::<K, S>(store, way.parent, way.place)?.min(key);
     if weight < limit(way.child.level) {
-        let entry = Entry {
-            weight: weight + 1,
-            key: low,
-            child: way.child.block as u64,
-        };
+        let entry = Entry::of_child(weight + 1, low, way.child.block);
         replace_entry(store, way.parent, way.place, &entry)?;
         return Ok(Mark::Nothing);
     }
@@ -59,16 +47,12 @@ pub fn raise<K: Key, S: Store>(store: &mut S, root: Node, keys: u64) -> Result<N
 {
     let low: K = entry_key(store, root.block, 0)?;
     let top = store.take()?;
-    if top == 0 || top > LARGEST_BLOCK {
+    if !(1..=LARGEST_BLOCK).contains(&top) {
         return Err(damaged(top));
     }
     let level = root.level + 1;
     store.set(top, LEVEL_AT, level as u64)?;
-    let entry = Entry {
-        weight: keys,
-        key: low,
-        child: root.block as u64,
-    };
+    let entry = Entry::of_child(keys, low, root.block);
     insert_entry(store, top, 0, &entry)?;
     let way = Way {
         parent: top,

@@ -41,7 +41,7 @@ fn lay_out<K: Key, S: Store>(store: &mut S) -> Result<(u32, Tree), Fault> {
     }
     let at = store.take()?;
     let block = store.take()?;
-    if block == 0 || block > LARGEST_BLOCK {
+    if !(1..=LARGEST_BLOCK).contains(&block) {
         return Err(damaged(block));
     }
     let root = Node { block, level: 0 };

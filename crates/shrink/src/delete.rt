@@ -22,11 +22,7 @@ use tree::mark::Mark;
 fn settle<K: Key, S: Store>(store: &mut S, way: Way) -> Result<Mark, Fault> {
     let weight = entry_weight(store, way.parent, way.place)?.saturating_sub(1);
     let low: K = entry_key(store, way.child.block, 0)?;
-    let entry = Entry {
-        weight,
-        key: low,
-        child: way.child.block as u64,
-    };
+    let entry = Entry::of_child(weight, low, way.child.block);
     replace_entry(store, way.parent, way.place, &entry)?;
     if weight >= limit(way.child.level) / 4 {
         return Ok(Mark::Nothing);
@@ -57,7 +53,7 @@ fn lower<K: Key, S: Store>(store: &mut S, tree: Tree) -> Result<Tree, Fault> {
     }
     let block = child_block::<K, S>(store, root.block, 0)?;
     let level = root.level - 1;
-    if block == 0 || block > LARGEST_BLOCK || keys > limit(level) {
+    if !(1..=LARGEST_BLOCK).contains(&block) || keys > limit(level) {
         return Err(damaged(root.block));
     }
     store.give_back(root.block)?;

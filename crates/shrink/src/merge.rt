@@ -65,11 +65,7 @@ fn merge<K: Key, S: Store>(store: &mut S, pair: &Siblings<K>) -> Result<(), Faul
     let Siblings { left, right, .. } = *pair;
     append_all::<K, S>(store, right.child.block, left.child.block)?;
     remove_entry::<K, S>(store, right.parent, right.place)?;
-    let entry = Entry {
-        weight: pair.weight,
-        key: pair.low,
-        child: left.child.block as u64,
-    };
+    let entry = Entry::of_child(pair.weight, pair.low, left.child.block);
     replace_entry(store, left.parent, left.place, &entry)?;
     store.give_back(right.child.block)
 }
@@ -80,17 +76,9 @@ fn share<K: Key, S: Store>(store: &mut S, pair: &Siblings<K>) -> Result<(), Faul
     append_all::<K, S>(store, right.child.block, left.child.block)?;
     let halves: Halves<K> = halve(store, left.child)?;
     move_tail::<K, S>(store, left.child.block, right.child.block, halves.kept)?;
-    let entry = Entry {
-        weight: halves.left,
-        key: pair.low,
-        child: left.child.block as u64,
-    };
+    let entry = Entry::of_child(halves.left, pair.low, left.child.block);
     replace_entry(store, left.parent, left.place, &entry)?;
-    let entry = Entry {
-        weight: halves.right,
-        key: halves.key,
-        child: right.child.block as u64,
-    };
+    let entry = Entry::of_child(halves.right, halves.key, right.child.block);
     replace_entry(store, right.parent, right.place, &entry)
 }
 
