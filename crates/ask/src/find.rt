@@ -14,6 +14,8 @@ use plain::pair::Pair;
 use store::blocks::Store;
 use store::fault::Fault;
 
+// The clauses spell the kind of key out: a member of the trait `Key` could not name what a crate above it defines.
+
 // The leaf that a key belongs to.
 fn leaf_of<K: Key, S: Store>(store: &mut S, root: Node, key: &K) -> Result<u32, Fault>
     ensures { Leaves S.meaning S.ready (Reaches (kind K.width K.cmp K.packed K.unpacked) root key.now) store.old result store.new }

@@ -41,7 +41,9 @@ pub fn insert_below<K: Key, S: Store>(
 // Refuses an insertion before anything is written: present, then full, then no room.
 fn admit<K: Key, S: Store>(store: &mut S, tree: Tree, key: &K) -> Result<(), Fault> {
     let Header { root, keys } = tree.header;
-    let full = survey(store, root, key)?;
+    let Some(full) = survey(store, root, key)? else {
+        return Err(refuse(Refusal::Present));
+    };
     let root_full = keys >= limit(root.level);
     if root_full && root.level == TOP_LEVEL {
         return Err(refuse(Refusal::Full));
