@@ -17,7 +17,7 @@ loop-node-preserved g c = λ h.
     record {
       call = λ p.
           let s = i.call p in
-          below_turn (of g) (law g) _ _ _ _ _ _ _ s.0 c.loop-node-test.true c.in_ok-node.ensures.below.1 s.1 (e.call (below_peopled (of g) (law g) _ _ _ _ _ s.0 c.loop-node-test.true s.1));
+          below_turn (of g) (law g) _ _ _ _ _ _ _ s.0 c.loop-node-test.true c.in_ok-node.ensures.child.1 s.1 (e.call (below_peopled (of g) (law g) _ _ _ _ _ s.0 c.loop-node-test.true s.1));
       ready = e.ready;
     }
 
