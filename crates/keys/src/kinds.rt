@@ -57,7 +57,7 @@ impl Key for Checkpoint {
 
     fn word(&self, i: u32) -> u64 {
         if i == 0 {
-            self.case as u64 * 4_294_967_296 + self.step as u64
+            u64::from(self.case) * 4_294_967_296 + u64::from(self.step)
         } else {
             0
         }
