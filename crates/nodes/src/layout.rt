@@ -53,7 +53,7 @@ pub fn child_at<K: Key>(i: u32) -> u32
 pub fn block_of(word: u64) -> u32
     ensures { result ≡ block_number word }
 {
-    if word <= LARGEST_BLOCK as u64 {
+    if word <= u64::from(LARGEST_BLOCK) {
         word as u32
     } else {
         0

@@ -19,7 +19,7 @@ pub fn count<S: Store>(store: &mut S, block: u32) -> Result<u32, Fault>
     ensures refuses { Leaves S.meaning S.ready (Fails (Overfull block) (Damage block)) store.old result store.new }
 {
     let n = store.get(block, COUNT_AT)?;
-    if n > PLACES as u64 {
+    if n > u64::from(PLACES) {
         return Err(damaged(block));
     }
     Ok(n as u32)

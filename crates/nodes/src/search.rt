@@ -8,7 +8,6 @@ ghost use Rattle.nodes.specs.Finds.{Found};
 
 use crate::read::{count, entry_key};
 use keys::key::Key;
-use std::cmp::Ordering;
 use store::blocks::Store;
 use store::fault::Fault;
 
@@ -24,7 +23,7 @@ pub fn keys_up_to<K: Key, S: Store>(store: &mut S, block: u32, q: &K) -> Result<
     while low < high {
         let mid = low + (high - low) / 2;
         let key: K = entry_key(store, block, mid)?;
-        if key.cmp(q) == Ordering::Greater {
+        if key > *q {
             high = mid;
         } else {
             low = mid + 1;

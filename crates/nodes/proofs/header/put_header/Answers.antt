@@ -16,7 +16,7 @@ returns g c h =
     let s' = c.in_ok-set-2.ensures.keeps s.ready in
     let s'' = c.in_ok-set-3.ensures.keeps s'.ready in
     let e = c.set-4.ensures.keeps s''.ready in
-    let one = filled_more m _ _ b 0 0 _ ws c.words.ensures (filled_none m b 0 ws) s.call in
+    let one = filled_more m _ _ b 0 0 _ ws (omega arith) (filled_none m b 0 ws) s.call in
     let two = filled_more m _ _ b 0 1 _ ws (omega arith) one s'.call in
     let three = filled_more m _ _ b 0 2 _ ws (omega arith) two s''.call in
     record {
