@@ -1,41 +1,30 @@
 -- The way to a leaf, and what a search in a leaf tells of its pairs.
-use Rattle.std.proofs.Common.{◌≡◌, ℕ, zero, suc, ◌+◌, ◌-◌, ◌<◌, ◌≤◌, Bool, true, false, cond, List, [], ◌∷◌, ◌++◌, map, length, get_or, take, drop, Some, None, filter, Option, Ordering, Less, Equal, Greater, unwrap_or, sym, refl, ap, ◌∙◌, subst, append-nil, arith}
-use Rattle.std.proofs.lemmas.List.{take-append-drop}
+use Rattle.std.proofs.Common.{◌≡◌, ℕ, zero, suc, ◌+◌, ◌-◌, ◌<◌, ◌≤◌, Bool, true, false, cond, List, [], ◌∷◌, ◌++◌, map, get_or, take, drop, Some, None, filter, Option, Ordering, Less, Equal, Greater, unwrap_or, sym, refl, ap, ◌∙◌, subst, append-nil, arith}
+use Rattle.std.proofs.lemmas.List.{take-append-drop, take_more}
 use Rattle.std.specs.List.{last_or, AllByRecursion}
+use Rattle.std.specs.Bool.{then_some}
+use Rattle.std.specs.Option.{MatchOption, IsSomeAnd}
 use Rattle.std.specs.Ordering.{is_le, is_eq}
 use Rattle.store.specs.Meaning.{Meaning}
 use Rattle.keys.specs.Orders.{Orderly}
 use Rattle.keys.specs.Sorted.{Ascending}
-use Rattle.nodes.specs.Nodes.{Entry, Node, Keyed, Leads, entry_at, entries}
+use Rattle.nodes.specs.declared.node.Node.{Node}
+use Rattle.nodes.specs.Nodes.{Entry, Node as IsNode, Keyed, Leads, entry_at, entries}
 use Rattle.nodes.specs.Finds.{Found, keys_in}
 use Rattle.plain.specs.Plain.{Sorted, find, floor}
 use Rattle.plain.specs.declared.pair.Pair.{Pair}
-use Rattle.plain.proofs.Alls.{all_map, kept_append, kept_all, kept_none, last_some}
-use Rattle.tree.specs.Tree.{index_shape, index_unit}
+use Rattle.plain.proofs.Alls.{all_map, kept_append, kept_all, kept_none, last_some, last_append}
+use Rattle.tree.specs.Tree.{index_unit}
 use Rattle.tree.specs.Queries.{floor_down}
-use Rattle.tree.proofs.Units.{Units, shape_units}
 use Rattle.tree.proofs.Flat.{flat_leaf}
 use Rattle.tree.proofs.Queries.{flat_floor}
 use Rattle.balance.specs.declared.way.Way.{Way}
 use Rattle.balance.specs.Ways.{Led, Peopled}
+use Rattle.balance.proofs.Levels.{index_units}
 use Rattle.held.specs.Held.{Kind, Lawful, item, node, Sits}
-use Rattle.held.specs.Roots.{pairs_in}
-use Rattle.held.proofs.Child.{child, peopled, node_of, item_at, node_length}
+use Rattle.held.specs.Roots.{pairs_in, pairs_below, Rooted}
+use Rattle.held.proofs.Child.{child, peopled, node_of, item_at, node_length, not_greater}
 use Rattle.ask.specs.Leaf.{LeafOf}
-
-pub units : Units index_unit
-units = shape_units index_shape
-
-not_greater : (r : Ordering) → (r ≡ Greater → ⊥) → is_le r ≡ true
-not_greater Less h = refl
-not_greater Equal h = refl
-not_greater Greater h = absurd (h refl)
-
--- the last of the first so many
-pub last_take : {X : Type 0} (o : Option X) (xs : List X) (r : ℕ) (d : X) → r < length xs → last_or o (take (suc r) xs) ≡ Some (get_or xs r d)
-last_take o [] r d h = absurd (omega arith)
-last_take o (x ∷ xs) zero d h = refl
-last_take o (x ∷ xs) (suc r) d h = last_take (Some x) xs r d (omega arith)
 
 -- the handle in a floor, if its key is k
 abbrev pub handle_at : {K : Type 0} → (K → K → Ordering) → K → Option (Pair K) → Option ℕ
@@ -108,10 +97,6 @@ module _ {K : Type 0} (κ : Kind K) where
         high = rest_above m.words k es r sp.rest;
       }
 
-  all_fail : (k : K) (ps : List (Pair K)) → AllByRecursion (λ p. κ.order p.key k ≡ Greater) ps → AllByRecursion (λ p. is_le (κ.order p.key k) ≡ false) ps
-  all_fail k [] a = tt
-  all_fail k (p ∷ ps) a = (ap is_le a.0, all_fail k ps a.1)
-
   -- those at most k
   pub kept_first : (m : Meaning) (b : ℕ) (k : K) (r : ℕ) → Parted m b k r → filter (λ p. is_le (κ.order p.key k)) (pairs_in κ m.words 0 b) ≡ take r (node κ m.words 0 b)
   kept_first m b k r p =
@@ -120,55 +105,55 @@ module _ {K : Type 0} (κ : Kind K) where
       ap (filter t) (leaf_pairs m.words b ∙ sym (take-append-drop r x))
       ∙ kept_append t (take r x) (drop r x)
       ∙ ap (λ z. z ++ filter t (drop r x)) (kept_all t (take r x) p.low)
-      ∙ ap (λ z. take r x ++ z) (kept_none t (drop r x) (all_fail k (drop r x) p.high))
+      ∙ ap (λ z. take r x ++ z) (kept_none t (drop r x) (all_map _ _ (drop r x) (λ q e. ap is_le e) p.high))
       ∙ append-nil (take r x)
 
   pub floor_none : (m : Meaning) (b : ℕ) (k : K) (r : ℕ) → r ≡ 0 → Parted m b k r → None ≡ floor κ.order k (pairs_in κ m.words 0 b)
   floor_none m b k r e p = sym (ap (last_or None) (kept_first m b k r p ∙ ap (λ z. take z (node κ m.words 0 b)) e))
 
-  pub floor_some : (m : Meaning) (b : ℕ) (k : K) (r : ℕ) → 0 < r → Parted m b k r → Some (item κ m.words 0 (entry_at κ.form (m.words b) (r - 1))) ≡ floor κ.order k (pairs_in κ m.words 0 b)
-  floor_some m b k r h p =
+  pub floor_some : (m : Meaning) (b : ℕ) (k : K) (r i : ℕ) → r ≡ i + 1 → Parted m b k r → Some (item κ m.words 0 (entry_at κ.form (m.words b) i)) ≡ floor κ.order k (pairs_in κ m.words 0 b)
+  floor_some m b k r i e p =
       let x = node κ m.words 0 b in
-      let q = item κ m.words 0 (entry_at κ.form (m.words b) (r - 1)) in
-      let back : r ≡ suc (r - 1) = omega arith in
-      sym (ap (last_or None) (kept_first m b k r p ∙ ap (λ z. take z x) back) ∙ last_take None x (r - 1) q (omega (arith, p.within, node_length κ m.words 0 b)) ∙ ap Some (item_at κ m.words 0 b (r - 1) q (omega (arith, p.within))))
+      let q = item κ m.words 0 (entry_at κ.form (m.words b) i) in
+      let first : take r x ≡ take i x ++ (get_or x i q ∷ []) = ap (λ z. take z x) e ∙ take_more x i q (omega (arith, p.within, node_length κ m.words 0 b)) in
+      sym (ap (last_or None) (kept_first m b k r p ∙ first) ∙ last_append None (take i x) (get_or x i q ∷ []) ∙ ap Some (item_at κ m.words 0 b i q (omega (arith, p.within))))
 
-  -- block c holds a node of level j below the node of level l in block b, and the floor of k is in it
-  pub record Below (m : Meaning) (l b : ℕ) (k : K) (j c : ℕ) : Type 0 where
-    pub sits : Sits κ index_unit m j c
-    pub floors : floor κ.order k (pairs_in κ m.words j c) ≡ floor κ.order k (pairs_in κ m.words l b)
+  -- a node below the root, with the floor of k in it
+  pub record Below (m : Meaning) (root : Node) (k : K) (node : Node) : Type 0 where
+    pub sits : Rooted κ node m
+    pub floors : floor κ.order k (pairs_below κ node m) ≡ floor κ.order k (pairs_below κ root m)
 
 module _ {K : Type 0} (κ : Kind K) (law : Lawful κ) where
   pub floor_whole : (m : Meaning) (l b : ℕ) (k : K) → Sits κ index_unit m l b → floor_down κ.order l k (node κ m.words l b) ≡ floor κ.order k (pairs_in κ m.words l b)
-  floor_whole m l b k s = flat_floor law.ordered index_unit units l k (node κ m.words l b) s.kids s.fits s.ascending
+  floor_whole m l b k s = flat_floor law.ordered index_unit index_units l k (node κ m.words l b) s.kids s.fits s.ascending
 
-  pub below_child : (m n : Meaning) (l b j c : ℕ) (k : K) (w : Way) → Below κ m l b k (suc j) c → Led κ.form κ.order κ.unpacked c k m w n → Below κ m l b k j w.child
-  below_child m n l b j c k w d led =
-      let h = child κ law index_unit units m n j c k w d.sits led in
+  -- the child at l of a node one level higher
+  below_child : (m n : Meaning) (root : Node) (l c : ℕ) (k : K) (w : Way) → Below κ m root k (record { block = c; level = suc l }) → Led κ.form κ.order κ.unpacked c k m w n → Below κ m root k (record { block = w.child.block; level = l })
+  below_child m n root l c k w d led =
+      let h = child κ law index_unit index_units m n l c k w d.sits led in
       record {
         sits = h.sits;
-        floors = sym (floor_whole m j w.child k h.sits) ∙ sym (h.routed.floor_is ∙ ap (floor_down κ.order j k) h.is) ∙ floor_whole m (suc j) c k d.sits ∙ d.floors;
+        floors = sym (floor_whole m l w.child.block k h.sits) ∙ sym (h.routed.floor_is ∙ ap (floor_down κ.order l k) h.is) ∙ floor_whole m (suc l) c k d.sits ∙ d.floors;
       }
 
-  -- in a loop over the depth i, after reads that changed nothing
-  pub below_start : (m : Meaning) (l b : ℕ) (k : K) → Sits κ index_unit m l b → Below κ m l b k (l - 0) b
-  below_start m l b k s = let none : l ≡ l - 0 = omega arith in subst (λ j. Below κ m l b k j b) none (record { sits = s; floors = refl })
+  -- in the loop down from the root, after reads that changed nothing
+  above_leaf : (m : Meaning) (root : Node) (k : K) (node : Node) → 0 < node.level → Below κ m root k node → Below κ m root k (record { block = node.block; level = suc (node.level - 1) })
+  above_leaf m root k node h d = let more : node.level ≡ suc (node.level - 1) = omega arith in subst (λ j. Below κ m root k (record { block = node.block; level = j })) more d
 
-  at_turn : (m : Meaning) (l b i c : ℕ) (k : K) → i < l → Below κ m l b k (l - i) c → Below κ m l b k (suc (l - (i + 1))) c
-  at_turn m l b i c k h d = let more : l - i ≡ suc (l - (i + 1)) = omega arith in subst (λ j. Below κ m l b k j c) more d
+  pub below_peopled : (m u : Meaning) (root : Node) (k : K) (node : Node) → u ≡ m → 0 < node.level → Below κ m root k node → Peopled κ.form node.block u
+  below_peopled m u root k node e h d = subst (Peopled κ.form node.block) (sym e) (peopled κ index_unit m (node.level - 1) node.block (above_leaf m root k node h d).sits)
 
-  pub below_peopled : (m u : Meaning) (l b i c : ℕ) (k : K) → u ≡ m → i < l → Below κ m l b k (l - i) c → Peopled κ.form c u
-  below_peopled m u l b i c k e h d = subst (λ z. Peopled κ.form c z) (sym e) (peopled κ index_unit m (l - (i + 1)) c (at_turn m l b i c k h d).sits)
+  pub below_turn : (m u n : Meaning) (root : Node) (k : K) (node : Node) (w : Way) → u ≡ m → 0 < node.level → w.child.level ≡ node.level - 1 → Below κ m root k node → Led κ.form κ.order κ.unpacked node.block k u w n → (n ≡ m) × Below κ m root k w.child
+  below_turn m u n root k node w e h one d led =
+      let led' : Led κ.form κ.order κ.unpacked node.block k m w n = subst (λ z. Led κ.form κ.order κ.unpacked node.block k z w n) e led in (
+        led'.found.same,
+        subst (λ j. Below κ m root k (record { block = w.child.block; level = j })) (sym one) (below_child m n root (node.level - 1) node.block k w (above_leaf m root k node h d) led'),
+      )
 
-  pub below_turn : (m u n : Meaning) (l b i c : ℕ) (k : K) (w : Way) → u ≡ m → i < l → Below κ m l b k (l - i) c → Led κ.form κ.order κ.unpacked c k u w n → (n ≡ m) × Below κ m l b k (l - (i + 1)) w.child
-  below_turn m u n l b i c k w e h d led =
-      let led' : Led κ.form κ.order κ.unpacked c k m w n = subst (λ z. Led κ.form κ.order κ.unpacked c k z w n) e led in
-      (led'.found.same, below_child m n l b (l - (i + 1)) c k w (at_turn m l b i c k h d) led')
-
-  pub leaf_reached : (m n : Meaning) (l b i c : ℕ) (k : K) → l ≤ i → n ≡ m → Below κ m l b k (l - i) c → LeafOf κ l b k m c n
-  leaf_reached m n l b i c k h e d =
-      let none : l - i ≡ 0 = omega arith in
-      let d' : Below κ m l b k 0 c = subst (λ j. Below κ m l b k j c) none d in
+  pub leaf_reached : (m n : Meaning) (root : Node) (k : K) (node : Node) → node.level ≤ 0 → n ≡ m → Below κ m root k node → LeafOf κ root k m node.block n
+  leaf_reached m n root k node h e d =
+      let none : node.level ≡ 0 = omega arith in
+      let d' : Below κ m root k (record { block = node.block; level = 0 }) = subst (λ j. Below κ m root k (record { block = node.block; level = j })) none d in
       record { sits = d'.sits; floors = d'.floors; same = e }
 
 -- the pair of an entry that was read
@@ -183,25 +168,25 @@ read_pair κ m u v n b i key h e x y =
     )
 
 -- the search in a leaf that was reached
-pub searched : {K : Type 0} (κ : Kind K) (m u n : Meaning) (l root leaf : ℕ) (k : K) (r : ℕ) → LeafOf κ l root k m leaf u → Found κ.form κ.order κ.unpacked leaf k u r n → (n ≡ m) × Parted κ m leaf k r
-searched κ m u n l root leaf k r a f =
+pub searched : {K : Type 0} (κ : Kind K) (m u n : Meaning) (root : Node) (leaf : ℕ) (k : K) (r : ℕ) → LeafOf κ root k m leaf u → Found κ.form κ.order κ.unpacked leaf k u r n → (n ≡ m) × Parted κ m leaf k r
+searched κ m u n root leaf k r a f =
     let f' : Found κ.form κ.order κ.unpacked leaf k m r n = subst (λ z. Found κ.form κ.order κ.unpacked leaf k z r n) a.same f in
     (f'.same, parted κ m n leaf k r a.sits f')
 
-pub leaf_node : {K : Type 0} (κ : Kind K) (m u : Meaning) (l root leaf : ℕ) (k : K) → LeafOf κ l root k m leaf u → Node κ.form leaf u
-leaf_node κ m u l root leaf k a = subst (λ z. Node κ.form leaf z) (sym a.same) (node_of κ index_unit m 0 leaf a.sits)
+pub leaf_node : {K : Type 0} (κ : Kind K) (m u : Meaning) (root : Node) (leaf : ℕ) (k : K) → LeafOf κ root k m leaf u → IsNode κ.form leaf u
+leaf_node κ m u root leaf k a = subst (λ z. IsNode κ.form leaf z) (sym a.same) (node_of κ index_unit m 0 leaf a.sits)
 
 -- what a floor that was told tells of the key itself
 pub told_find : {K : Type 0} {order : K → K → Ordering} (o : Orderly order) (k : K) (ps : List (Pair K)) (f : Option (Pair K)) (r : Option ℕ) → Sorted order ps → f ≡ floor order k ps → r ≡ handle_at order k f → r ≡ find order k ps
 told_find {order = order} o k ps f r a e h = h ∙ ap (handle_at order k) e ∙ sym (find_by_floor o k ps a)
 
-pub same_handle : {K : Type 0} (order : K → K → Ordering) (k : K) (p : Pair K) → order p.key k ≡ Equal → Some p.handle ≡ handle_at order k (Some p)
-same_handle order k p e = sym (ap (λ r. cond (is_eq r) (Some p.handle) None) e)
-
-pub other_handle : {K : Type 0} (order : K → K → Ordering) (k : K) (p : Pair K) → (order p.key k ≡ Equal → ⊥) → None ≡ handle_at order k (Some p)
-other_handle order k p n = go (order p.key k) n
+-- the handle of a pair that was kept if its key is k
+pub kept_handle : {K : Type 0} (order : K → K → Ordering) (k : K) (Gives : Pair K → Bool → Type 0) (Tells : Pair K → ℕ → Type 0) → ((p : Pair K) (b : Bool) → Gives p b → b ≡ is_eq (order p.key k)) → ((p : Pair K) (h : ℕ) → Tells p h → h ≡ p.handle)
+    → (f kept : Option (Pair K)) (r : Option ℕ) → MatchOption f (kept ≡ None) (λ p. (b : Bool) × Gives p b × (kept ≡ then_some b p)) → MatchOption kept (r ≡ None) (λ p. IsSomeAnd r (Tells p)) → r ≡ handle_at order k f
+kept_handle order k Gives Tells gives tells None kept r is told = subst (λ z. MatchOption z (r ≡ None) (λ p. IsSomeAnd r (Tells p))) is told
+kept_handle {K} order k Gives Tells gives tells (Some p) kept r (b, given, is) told = go b (gives p b given) r (subst (λ z. MatchOption z (r ≡ None) (λ q. IsSomeAnd r (Tells q))) is told)
   where
-    go : (r : Ordering) → (r ≡ Equal → ⊥) → None ≡ cond (is_eq r) (Some p.handle) None
-    go Less n = refl
-    go Equal n = absurd (n refl)
-    go Greater n = refl
+    go : (b : Bool) → b ≡ is_eq (order p.key k) → (r : Option ℕ) → MatchOption (then_some b p) (r ≡ None) (λ q. IsSomeAnd r (Tells q)) → r ≡ cond (is_eq (order p.key k)) (Some p.handle) None
+    go true e None t = elim t [ ]
+    go true e (Some h) t = ap Some (tells p h t) ∙ ap (λ z. cond z (Some p.handle) None) e
+    go false e r t = t ∙ ap (λ z. cond z (Some p.handle) None) e

@@ -30,9 +30,9 @@ weights_at φ l β i h =
     get_or-map (entry_weight l) (entries φ β) i (entry_at φ β i) 0 (omega (arith, entries_length φ β)) ∙ ap (entry_weight l) (entries_at φ β i (entry_at φ β i) h)
 
 -- in a leaf each entry adds 1
-pub weighed_leaf : (φ : Form) (b l i : ℕ) (m : Meaning) → l ≡ 0 → Weighable φ b l i m → Weighed φ b l i m 1 m
-weighed_leaf φ b zero i m e p = record { value = sym (weights_at φ 0 (m.words b) i p.has); same = refl }
-weighed_leaf φ b (suc l) i m e p = absurd (omega arith)
+pub weighed_leaf : (φ : Form) (b l i w : ℕ) (m : Meaning) → l ≡ 0 → w ≡ 1 → Weighable φ b l i m → Weighed φ b l i m w m
+weighed_leaf φ b zero i w m e one p = record { value = one ∙ sym (weights_at φ 0 (m.words b) i p.has); same = refl }
+weighed_leaf φ b (suc l) i w m e one p = absurd (omega arith)
 
 -- above that what it stores
 pub weighed_inner : (φ : Form) (b l i w : ℕ) (m n : Meaning) → (l ≡ 0 → ⊥) → Weighable φ b l i m → Weighs b i m w n → Weighed φ b l i m w n
@@ -42,9 +42,6 @@ weighed_inner φ b (suc l) i w m n e p r = record { value = r.value φ ∙ sym (
 -- the weight of an entry can be read
 pub weight_there : (k b l i : ℕ) (m : Meaning) → Weighable (form k) b l i m → Word b (weight_at i) m
 weight_there k b l i m p = room_place (form k) b (weight_at i) m (omega (arith, p.has, p.mild.node.few)) p.mild.node.room
-
-mild_same : (φ : Form) (b l : ℕ) (m n : Meaning) → n ≡ m → Mild φ b l m → Mild φ b l n
-mild_same φ b l m n e p = subst (λ z. Mild φ b l z) (sym e) p
 
 -- one weight more is to be read, after so many were
 pub still_weighable : (φ : Form) (b l c i : ℕ) (m u : Meaning) → u ≡ m → i < c → Counted φ b l c m → Weighable φ b l i u
@@ -96,14 +93,14 @@ not_all φ b l n m u c e p r h =
     omega (arith, p.some, r.largest.light, ap sum (take_all c.kept ws (omega arith)), ap sum (drop_all c.kept ws (omega arith)))
 
 -- the two parts
-pub halved : {K : Type 0} (unpacked : List ℕ → K) (φ : Form) (b l n all : ℕ) (key : K) (m u t : Meaning) (c : Cut) → n ≡ m.words b 1 → all ≡ sum (weights φ l (m.words b)) → CutAt φ b l m c u → c.kept < n → Keyed φ unpacked b c.kept u key t →
-    Halved φ unpacked b l m (record { kept = c.kept; left = c.passed; right = all - c.passed; key = key }) t
-halved unpacked φ b l n all key m u t c e a r h k =
+pub halved : {K : Type 0} (unpacked : List ℕ → K) (φ : Form) (b l n all left right : ℕ) (key : K) (m u t : Meaning) (c : Cut) → n ≡ m.words b 1 → all ≡ sum (weights φ l (m.words b)) → CutAt φ b l m c u → c.kept < n → left ≡ c.passed → right ≡ all - c.passed → Keyed φ unpacked b c.kept u key t →
+    Halved φ unpacked b l m (record { kept = c.kept; left = left; right = right; key = key }) t
+halved unpacked φ b l n all left right key m u t c e a r h lo hi k =
     let ws = weights φ l (m.words b) in
     record {
       within = omega arith;
       largest = r.largest;
-      left = r.passed;
+      left = lo ∙ r.passed;
       right = omega (arith, r.passed, split_sum (λ (x : ℕ). x) ws c.kept);
       key = k.value ∙ ap (λ z. unpacked (entry_at φ (z.words b) c.kept).key) r.same;
       same = k.same ∙ r.same;

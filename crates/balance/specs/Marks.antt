@@ -1,7 +1,8 @@
 -- The marks of an update, by level.
-use Rattle.std.specs.Prelude.{ℕ, zero, suc}
+use Rattle.std.specs.Prelude.{ℕ, zero, suc, List, ◌++◌}
 use Rattle.tree.specs.declared.mark.Mark.{Mark}
 use Rattle.tree.specs.declared.mark.Mark.TheVariants.{Nothing}
+use Rattle.tree.specs.Letters.{letter_of}
 use Rattle.balance.specs.declared.marks.Marks.{Marks}
 
 -- the mark at level j; there is none above level 4
@@ -12,3 +13,7 @@ mark_at marks (suc (suc zero)) = marks.level2
 mark_at marks (suc (suc (suc zero))) = marks.level3
 mark_at marks (suc (suc (suc (suc zero)))) = marks.level4
 mark_at marks (suc (suc (suc (suc (suc j))))) = Nothing
+
+-- a letter for each level, the leaves first
+abbrev pub letters : Marks → List ℕ
+letters m = letter_of m.level0 ++ (letter_of m.level1 ++ (letter_of m.level2 ++ (letter_of m.level3 ++ letter_of m.level4)))

@@ -13,7 +13,7 @@ use store::blocks::Store;
 use store::fault::Fault;
 
 // Far above any weight: sums of 80 weights stay within a word.
-const HEAVIEST: u64 = 1_099_511_627_776;
+const HEAVIEST: u64 = 1 << 40;
 
 // What entry i adds to its node's weight: 1 in a leaf.
 pub fn weigh<K: Key, S: Store>(store: &mut S, node: Node, i: u32) -> Result<u64, Fault>

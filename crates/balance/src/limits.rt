@@ -6,14 +6,9 @@ ghost use Rattle.balance.specs.Limits.{limit_of};
 pub const TOP_LEVEL: u32 = 4;
 
 // The most that a node of this level may weigh: 64 × 16^level. A level above the top counts as the top.
+#[tactic(auto, using(crate::proofs::Levels::limit_shifted))]
 pub fn limit(level: u32) -> u64
     ensures { result ≡ limit_of level }
 {
-    match level {
-        0 => 64,
-        1 => 1_024,
-        2 => 16_384,
-        3 => 262_144,
-        _ => 4_194_304,
-    }
+    64 << (4 * level.min(TOP_LEVEL))
 }

@@ -1,11 +1,13 @@
 // What an accepted update did at each level.
-ghost use Rattle.std.specs.Prelude.{◌≡◌, ℕ, ◌≤◌, if◌then◌else◌, nat_eq};
+ghost use Rattle.std.specs.Prelude.{◌≡◌, ℕ, ◌≤◌, if◌then◌else◌, nat_eq, Some};
 ghost use Rattle.tree.specs.declared.mark.Mark.TheVariants.{Nothing};
-ghost use Rattle.balance.specs.Marks.{mark_at};
+ghost use Rattle.balance.specs.Marks.{mark_at, letters};
 
+use std::fmt;
 use tree::mark::Mark;
 
-// A mark for each level, the leaves first.
+// A mark for each level, the leaves first. Five fields and no array: each level's mark is read by its name, as the rules
+// of the interface want it, and a tree has no more levels.
 #[derive(Clone, Copy, PartialEq, Eq, Debug)]
 pub struct Marks {
     pub level0: Mark,
@@ -42,5 +44,18 @@ impl Marks {
             _ => marks.level4 = mark,
         }
         marks
+    }
+}
+
+// Five letters, the leaves first.
+impl fmt::Display for Marks {
+    ghost output = { λ m. Some (letters m) };
+
+    fn fmt<W: fmt::Write>(&self, f: &mut fmt::Formatter<W>) -> fmt::Result {
+        write!(
+            f,
+            "{}{}{}{}{}",
+            self.level0, self.level1, self.level2, self.level3, self.level4
+        )
     }
 }

@@ -22,6 +22,7 @@ pub struct Updated {
 }
 
 // A refusal of the index itself.
+// beside nodes' `damaged`, which has the block and one reason: one maker of both would be given a constant at each call
 pub fn refuse(refusal: Refusal) -> Fault
     ensures { result ≡ own_refusal refusal }
 {

@@ -43,7 +43,8 @@ pub(crate) fn fill<S: Store>(store: &mut S, block: u32, line: &mut Line) -> Resu
     Ok(())
 }
 
-// Asks a store that was lost again. A store that was not lost is left alone.
+// Asks a store that was lost again. A store that was not lost is left alone. The flag is tested here and not at the caller, so
+// that one relation tells both cases.
 pub(crate) fn heard<S: Store>(store: &mut S, lost: bool) -> Result<(), Fault>
     ensures { Leaves S.meaning S.ready (Heard lost) store.old result store.new }
 {

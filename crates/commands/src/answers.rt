@@ -4,7 +4,8 @@ use crate::parse::parse;
 use crate::run::run;
 use std::alloc::{AllocError, Global};
 use std::fmt::Write;
-use stores::table::TableStore;
+use stores::lent::Runs;
+use stores::table::{Rows, TableStore};
 
 // The most input that is read, in bytes.
 pub const LONGEST_INPUT: usize = 65_536;
@@ -24,7 +25,12 @@ fn answers_of(heap: Global, calls: &[Call]) -> Result<Vec<Answer>, AllocError> {
     let mut answers = vec![in heap; Ok(Reply::Handle(None)); calls.len()]?;
     let mut words = vec![in heap; 0u64; BLOCKS * WIDTH]?;
     let mut marks = vec![in heap; 0u8; BLOCKS]?;
-    if let Ok(store) = TableStore::fresh(&mut words, &mut marks, WIDTH as u32) {
+    let runs = Runs {
+        words: &mut words,
+        marks: &mut marks,
+        layout: Rows,
+    };
+    if let Ok(store) = TableStore::fresh(runs, WIDTH as u32) {
         let _ = run(store, calls, &mut answers);
     }
     Ok(answers)

@@ -1,8 +1,9 @@
 // A list of calls made on a new index, one after the other.
 use crate::call::{Answer, Call, Reply};
-use index::index::{Created, Index, Refused};
+use index::index::{Created, Index};
 use keys::checkpoint::Checkpoint;
 use store::blocks::Store;
+use store::fault::Refused;
 
 // One call on the index.
 fn serve<S: Store>(index: &mut Index<Checkpoint, S>, call: Call) -> Answer {
@@ -19,9 +20,9 @@ fn serve<S: Store>(index: &mut Index<Checkpoint, S>, call: Call) -> Answer {
 // can be made, each call is answered with that refusal. The caller lends room for the answers, so this can't fail.
 pub fn run<S: Store>(store: S, calls: &[Call], answers: &mut [Answer]) -> S {
     match Index::create(store) {
-        Err(Refused { fault, store }) => {
-            answers.fill(Err(fault));
-            store
+        Err(Refused { cause, back }) => {
+            answers.fill(Err(cause));
+            back
         }
         Ok(
             Created {

@@ -1,13 +1,11 @@
 -- Words copied one by one.
 use Rattle.std.proofs.Common.{◌≡◌, ℕ, ◌+◌, ◌-◌, ◌<◌, ◌≤◌, ◌⊎◌, sym, ap, ◌∙◌, subst, inl, inr, arith}
 use Rattle.std.proofs.lemmas.Bool.Decides.{nat_tests}
-use Rattle.store.specs.declared.fault.Fault.{Fault}
 use Rattle.store.specs.Meaning.{Meaning, with_at, with_block}
-use Rattle.store.specs.Calls.{GetDone, SetDone, Lost}
+use Rattle.store.specs.Calls.{GetDone}
 use Rattle.copies.specs.declared.copy.Spot.{Spot}
 use Rattle.copies.specs.Blocks.{Copyable, Pasted, Word, edit, splice, pasted, spot}
 use Rattle.copies.proofs.Changes.{splice_none, splice_up, splice_down, block_self, word_over}
-use Rattle.copies.proofs.Exits.{Kin, lost_later}
 
 -- one word copied is one word changed
 paste_one : (α β : ℕ → ℕ) (q p : ℕ) → with_at β p (α q) ≡ pasted α q p 1 β
@@ -17,10 +15,7 @@ paste_one α β q p =
     let read : q ≡ (q + p) - p = omega arith in
     (λ z. with_at (sym (splice_none β p f) z) p (α (read z))) ∙ splice_up β p p f (omega arith)
 
--- the word that a copy reads, and the one that it writes
-pub from_word : (from to : Spot) (m : Meaning) → Copyable from to 1 m → Word from.block from.at m
-from_word from to m h = record { granted = h.from_granted; within = omega (arith, h.from_wide) }
-
+-- the word that a copy writes
 pub to_word : (from to : Spot) (m n : Meaning) → n ≡ m → Copyable from to 1 m → Word to.block to.at n
 to_word from to m n e h = record { granted = ap (λ z. z.granted to.block) e ∙ h.to_granted; within = omega (arith, h.to_wide, ap (λ z. z.shape.width) e) }
 
@@ -85,10 +80,3 @@ module _ (m : Meaning) (from to : Spot) where
   run_down len i j f' t' u w k d e put h l down inv =
       run_put (to.at + i + 1) (to.at + len) i u w (λ e. inl (omega arith)) (inv ∙ ap (λ z. run m from to z (to.at + len)) (omega arith)) (run_word len _ _ i f' t' u w d e put h (omega arith) inv)
       ∙ ap (with_block m to.block) (splice_down (m.words to.block) (to.at + i) (to.at + len) _ (omega arith))
-
-  -- it was lost, and so the whole copy is
-  pub run_lost : (len lo hi i : ℕ) (f' t' : Spot) (u w : Meaning) (x : Fault) → f' ≡ spot from.block (from.at + i) → t' ≡ spot to.block (to.at + i) → (Copyable f' t' 1 u → Lost u x w) → Copyable from to len m → i < len → u ≡ run m from to lo hi → Lost m x w
-  run_lost len lo hi i f' t' u w x d e lost h l inv =
-      let f = spot from.block (from.at + i) in
-      lost_later (record { shape = ap (λ z. z.shape) inv; below = ap (λ z. z.below) inv })
-      (subst (λ z. Copyable f z 1 u → Lost u x w) e (subst (λ z. Copyable z t' 1 u → Lost u x w) d lost) (run_next len lo hi i u h l inv))

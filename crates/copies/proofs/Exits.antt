@@ -1,14 +1,14 @@
 -- What the exit of a `?` returns, and how work begun earlier is lost. Assumes nothing.
-use Rattle.std.proofs.Common.{◌≡◌, ℕ, true, is_err, IsErrAnd, Ok, Err, Result, ap, ◌∙◌, arith}
+use Rattle.std.proofs.Common.{◌≡◌, ℕ, true, is_err, IsErrAnd, Ok, Err, Result, ap, ◌∙◌, subst, arith}
 use Rattle.std.proofs.lemmas.Bool.{both_ways}
 use Rattle.store.specs.declared.fault.Fault.{Fault}
 use Rattle.store.specs.declared.fault.Refusal.{Refusal}
 use Rattle.store.specs.declared.fault.Refusal.TheVariants.{Down}
 use Rattle.store.specs.Meaning.{Meaning, Fell, count, with_at}
-use Rattle.store.specs.Calls.{WordFails, SetDone, Get, Set, Deep, Lost}
+use Rattle.store.specs.Calls.{WordFails, SetDone, Set, Deep, Lost}
 use Rattle.store.specs.Calls.WordFails.{word_down, word_missing, word_outside}
 use Rattle.copies.specs.Work.{Work}
-use Rattle.copies.specs.Blocks.{Word, Read, Edited, edit}
+use Rattle.copies.specs.Blocks.{Word, Edited, edit}
 
 err_is : {T E : Type 0} (r : Result T E) (e : E) → IsErrAnd r (λ y. y ≡ e) → r ≡ Err e
 err_is (Ok x) e h = absurd h
@@ -29,9 +29,6 @@ kin_same e = record { shape = ap (λ z. z.shape) e; below = ap (λ z. z.below) e
 pub kin_edit : (l m : Meaning) (b : ℕ) (F : (ℕ → ℕ) → ℕ → ℕ) → m ≡ edit l b F → Kin l m
 unfolding edit
 kin_edit l m b F e = record { shape = ap (λ z. z.shape) e; below = ap (λ z. z.below) e }
-
-pub kin_then : {l m n : Meaning} → Kin l m → Kin m n → Kin l n
-kin_then a b = record { shape = b.shape ∙ a.shape; below = b.below ∙ a.below }
 
 -- work lost at m is lost to what began at l
 pub lost_later : {l m n : Meaning} {f : Fault} → Kin l m → Lost m f n → Lost l f n
@@ -71,10 +68,16 @@ pub set_work : (m n : Meaning) (b p x : ℕ) (r : Result (Unit {0}) Fault) → S
 set_work m n b p x (Ok _) h d = λ k. set_edit m n b p x h
 set_work m n b p x (Err f) h d = λ k. word_lost k h d
 
--- a word read, as work
-pub get_work : (m n : Meaning) (b p : ℕ) (r : Result ℕ Fault) → Get b p m r n → Deep m r → Work (Word b p) (Read b p) m r n
-get_work m n b p (Ok v) h d = λ k. record { value = h.value; same = h.same }
-get_work m n b p (Err f) h d = λ k. word_lost k h d
+-- the same where the block, the place and the word are known to be these
+pub set_at : (m n : Meaning) (b p x : ℕ) {b' p' x' : ℕ} → SetDone m b' p' x' n → b' ≡ b → p' ≡ p → x' ≡ x → n ≡ edit m b (λ β. with_at β p x)
+set_at m n b p x h d e f = set_edit m n _ _ _ h ∙ (λ z. edit m (d z) (λ β. with_at β (e z) (f z)))
+
+pub fails_at : {r : Refusal} {at : ℕ} {m n : Meaning} {b p b' p' : ℕ} → WordFails b' p' r at m n → b' ≡ b → p' ≡ p → WordFails b p r at m n
+fails_at {r} {at} {m} {n} {b} {p} {b'} {p'} h d e = subst (λ z. WordFails z p r at m n) d (subst (λ z. WordFails b' z r at m n) e h)
+
+pub set_work_at : (m n : Meaning) (b p x : ℕ) {b' p' x' : ℕ} (r : Result (Unit {0}) Fault) → Set b' p' x' m r n → Deep m r → b' ≡ b → p' ≡ p → x' ≡ x → Work (Word b p) (Edited b (λ β. with_at β p x)) m r n
+set_work_at m n b p x (Ok _) h k d e f = λ _. set_at m n b p x h d e f
+set_work_at m n b p x (Err y) h k d e f = λ q. word_lost q (fails_at h d e) k
 
 -- work that goes on from m, where other work had come to from l
 pub work_on : {A : Type 0} (P Q : Meaning → Type 0) (D E : Meaning → A → Meaning → Type 0) (l m n : Meaning) (r : Result A Fault) → (P l → Q m) → (P l → Kin l m) → ((a : A) → P l → E m a n → D l a n) → Work Q E m r n → Work P D l r n

@@ -45,7 +45,9 @@ pub fn copy_run<S: Store>(store: &mut S, from: Spot, to: Spot, len: u32) -> Resu
     requires room { (from.at + len < 2 ^ 32) × (to.at + len < 2 ^ 32) }
     ensures { Leaves S.meaning S.ready (Work (Copyable from to len) (Pasted from to len)) store.old result store.new }
 {
-    if to.at <= from.at {
+    // two loops: a range and its reverse are two types, and one loop would work out each place by the direction
+    let forward = to.at <= from.at;
+    if forward {
         for i in 0..len {
             copy_word(store, from.ahead(i), to.ahead(i))?;
         }

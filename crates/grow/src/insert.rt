@@ -1,17 +1,15 @@
 // A pair put into the tree.
-ghost use Rattle.std.specs.Prelude.{◌≤◌, Ok, Err};
-ghost use Rattle.balance.specs.Limits.{limit_of, Bounded};
-
 use crate::split::{raise, settle};
 use crate::survey::survey;
+use balance::down::way_down;
 use balance::limits::{TOP_LEVEL, limit};
 use balance::marks::Marks;
-use balance::update::{Updated, refuse};
-use balance::way::way_down;
+use balance::update::{Tree, Updated, refuse};
 use keys::key::Key;
 use nodes::edit::insert_entry;
 use nodes::entry::Entry;
 use nodes::header::Header;
+use nodes::node::Node;
 use nodes::search::keys_up_to;
 use store::blocks::Store;
 use store::fault::{Fault, Refusal};
@@ -20,47 +18,38 @@ use tree::mark::Mark;
 // Puts a pair in below a node, whose own weight its parent looks at.
 pub fn insert_below<K: Key, S: Store>(
     store: &mut S,
-    block: u32,
-    level: u32,
+    node: Node,
     key: &K,
     handle: u64,
 ) -> Result<Marks, Fault> {
-    if level == 0 {
-        let place = keys_up_to(store, block, key)?;
+    if node.level == 0 {
+        let place = keys_up_to(store, node.block, key)?;
         let entry = Entry {
             weight: 1,
             key: *key,
             child: handle,
         };
-        insert_entry(store, block, place, &entry)?;
+        insert_entry(store, node.block, place, &entry)?;
         return Ok(Marks::none());
     }
-    let way = way_down(store, block, key)?;
-    let marks = insert_below(store, way.child, level - 1, key, handle)?;
-    let mark = settle(store, block, way.place, way.child, level - 1, *key)?;
-    Ok(marks.with(level - 1, mark))
-}
-
-// How many blocks can still be taken.
-pub fn free_blocks<S: Store>(store: &mut S) -> Result<u32, Fault> {
-    let stock = store.stock()?;
-    Ok(stock.capacity.saturating_sub(stock.granted))
+    let way = way_down(store, node, key)?;
+    let marks = insert_below(store, way.child, key, handle)?;
+    let mark = settle(store, way, *key)?;
+    Ok(marks.with(way.child.level, mark))
 }
 
 // Refuses an insertion before anything is written: present, then full, then no room.
-fn admit<K: Key, S: Store>(store: &mut S, header: &Header, key: &K) -> Result<(), Fault>
-    requires { header.now.level ≤ 4 }
-{
-    let path = survey(store, header.root, header.level, key)?;
-    if path.present {
+fn admit<K: Key, S: Store>(store: &mut S, tree: Tree, key: &K) -> Result<(), Fault> {
+    let Header { root, keys } = tree.header;
+    let Some(full) = survey(store, root, key)? else {
         return Err(refuse(Refusal::Present));
-    }
-    let root_full = header.keys >= limit(header.level);
-    if root_full && header.level == TOP_LEVEL {
+    };
+    let root_full = keys >= limit(root.level);
+    if root_full && root.level == TOP_LEVEL {
         return Err(refuse(Refusal::Full));
     }
-    let wanted = if root_full { path.full + 2 } else { path.full };
-    if free_blocks(store)? < wanted {
+    let wanted = if root_full { full + 2 } else { full };
+    if store.stock()?.free() < wanted {
         return Err(refuse(Refusal::NoRoom));
     }
     Ok(())
@@ -69,33 +58,32 @@ fn admit<K: Key, S: Store>(store: &mut S, header: &Header, key: &K) -> Result<()
 // Puts a pair in. A root that becomes too heavy is split under a new root.
 pub fn insert<K: Key, S: Store>(
     store: &mut S,
-    header: Header,
+    tree: Tree,
     key: &K,
     handle: u64,
-) -> Result<Updated, Fault>
-    requires { Bounded header }
-    ensures { elim result [ Ok u ↦ Bounded u.header | Err f ↦ Unit {0} ] }
-{
-    admit(store, &header, key)?;
-    let marks = insert_below(store, header.root, header.level, key, handle)?;
-    let keys = header.keys;
-    if keys < limit(header.level) {
+) -> Result<Updated, Fault> {
+    admit(store, tree, key)?;
+    let Header { root, keys } = tree.header;
+    let marks = insert_below(store, root, key, handle)?;
+    if keys < limit(root.level) {
         let header = Header {
-            root: header.root,
-            level: header.level,
+            root,
             keys: keys + 1,
         };
-        return Ok(Updated { header, marks });
+        return Ok(Updated {
+            tree: Tree { header },
+            marks,
+        });
     }
-    if header.level >= TOP_LEVEL {
+    if root.level >= TOP_LEVEL {
         return Err(refuse(Refusal::Full));
     }
-    let root = raise::<K, S>(store, header.root, header.level, keys)?;
-    let marks = marks.with(header.level, Mark::Split);
     let header = Header {
-        root,
-        level: header.level + 1,
+        root: raise::<K, S>(store, root, keys)?,
         keys: keys + 1,
     };
-    Ok(Updated { header, marks })
+    Ok(Updated {
+        tree: Tree { header },
+        marks: marks.with(root.level, Mark::Split),
+    })
 }

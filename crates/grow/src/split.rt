@@ -1,103 +1,64 @@
 // A child that grew: its entry corrected, and the child split where it weighs too much.
-ghost use Rattle.std.specs.Prelude.{◌^◌, ◌<◌, ◌≤◌, Ok, Err};
+ghost use Rattle.std.specs.Prelude.{◌≡◌, ◌+◌, ◌≤◌, IfOk};
 
 use balance::cut::{Halves, halve};
 use balance::limits::limit;
+use balance::way::Way;
 use keys::key::Key;
 use nodes::edit::{insert_entry, move_tail, replace_entry};
 use nodes::entry::Entry;
-use nodes::layout::{LARGEST_BLOCK, LEVEL_AT, damaged};
+use nodes::layout::{LEVEL_AT, damaged};
+use nodes::node::Node;
 use nodes::read::{entry_key, entry_weight};
-use std::cmp::Ordering;
-use store::blocks::Store;
+use store::blocks::{LARGEST_BLOCK, Store};
 use store::fault::Fault;
 use tree::mark::Mark;
 
-// Splits the child at a place of its parent over its block and a new one; `low` is its smallest key.
-pub fn divide<K: Key, S: Store>(
-    store: &mut S,
-    parent: u32,
-    place: u32,
-    child: u32,
-    level: u32,
-    low: K,
-) -> Result<(), Fault>
-    requires within { place < 80 }
-{
-    let halves: Halves<K> = halve(store, child, level)?;
+// Splits a child over its block and a new one; `low` is its smallest key.
+pub fn divide<K: Key, S: Store>(store: &mut S, way: Way, low: K) -> Result<(), Fault> {
+    let child = way.child.block;
+    let halves: Halves<K> = halve(store, way.child)?;
     let fresh = store.take()?;
     move_tail::<K, S>(store, child, fresh, halves.kept)?;
-    let right = Entry {
-        weight: halves.right,
-        key: halves.key,
-        child: fresh as u64,
-    };
-    insert_entry(store, parent, place + 1, &right)?;
-    let left = Entry {
-        weight: halves.left,
-        key: low,
-        child: child as u64,
-    };
-    replace_entry(store, parent, place, &left)
-}
-
-// The smaller of two keys.
-fn smaller<K: Key>(a: K, b: K) -> K {
-    if a.cmp(&b) == Ordering::Greater {
-        b
-    } else {
-        a
-    }
+    let right = Entry::of_child(halves.right, halves.key, fresh);
+    insert_entry(store, way.parent, way.place + 1, &right)?;
+    let left = Entry::of_child(halves.left, low, child);
+    replace_entry(store, way.parent, way.place, &left)
 }
 
 // Corrects the entry of a child that `key` was put into, and splits the child if it weighs too much.
-pub fn settle<K: Key, S: Store>(
-    store: &mut S,
-    parent: u32,
-    place: u32,
-    child: u32,
-    level: u32,
-    key: K,
-) -> Result<Mark, Fault>
-    requires within { place < 80 }
-{
-    let weight = entry_weight(store, parent, place)?;
-    let low = smaller(entry_key(store, parent, place)?, key);
-    if weight < limit(level) {
-        let entry = Entry {
-            weight: weight + 1,
-            key: low,
-            child: child as u64,
-        };
-        replace_entry(store, parent, place, &entry)?;
+pub fn settle<K: Key, S: Store>(store: &mut S, way: Way, key: K) -> Result<Mark, Fault> {
+    let weight = entry_weight(store, way.parent, way.place)?;
+    let low = entry_key::<K, S>(store, way.parent, way.place)?.min(key);
+    if weight < limit(way.child.level) {
+        let entry = Entry::of_child(weight + 1, low, way.child.block);
+        replace_entry(store, way.parent, way.place, &entry)?;
         return Ok(Mark::Nothing);
     }
-    divide(store, parent, place, child, level, low)?;
+    divide(store, way, low)?;
     Ok(Mark::Split)
 }
 
 // Puts a new root above a root that weighs one more than `keys`, which is too much, and splits that.
-pub fn raise<K: Key, S: Store>(
-    store: &mut S,
-    block: u32,
-    level: u32,
-    keys: u64,
-) -> Result<u32, Fault>
-    requires { level ≤ 4 }
-    ensures { elim result [ Ok b ↦ (1 ≤ b) × (b ≤ 1048575) | Err f ↦ Unit {0} ] }
+pub fn raise<K: Key, S: Store>(store: &mut S, root: Node, keys: u64) -> Result<Node, Fault>
+    requires { root.level ≤ 4 }
+    ensures block { IfOk result (λ top. (1 ≤ top.block) × (top.block ≤ 1048575)) }
+    ensures level { IfOk result (λ top. top.level ≡ root.level + 1) }
 {
-    let low: K = entry_key(store, block, 0)?;
+    let low: K = entry_key(store, root.block, 0)?;
     let top = store.take()?;
-    if top == 0 || top > LARGEST_BLOCK {
+    if !(1..=LARGEST_BLOCK).contains(&top) {
         return Err(damaged(top));
     }
-    store.set(top, LEVEL_AT, level as u64 + 1)?;
-    let entry = Entry {
-        weight: keys,
-        key: low,
-        child: block as u64,
-    };
+    let level = root.level + 1;
+    store.set(top, LEVEL_AT, level as u64)?;
+    let entry = Entry::of_child(keys, low, root.block);
     insert_entry(store, top, 0, &entry)?;
-    divide(store, top, 0, block, level, low)?;
-    Ok(top)
+    let way = Way {
+        parent: top,
+        place: 0,
+        child: root,
+    };
+    divide(store, way, low)?;
+    Ok(Node { block: top, level })
 }

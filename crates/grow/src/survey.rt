@@ -1,51 +1,33 @@
 // The way of a key, looked at before anything is written.
-ghost use Rattle.std.specs.Prelude.{◌≤◌, Ok, Err};
+ghost use Rattle.std.specs.Prelude.{◌≤◌, IfOk, IfSome};
 
+use balance::down::way_down;
 use balance::limits::limit;
-use balance::way::way_down;
 use keys::key::Key;
+use nodes::node::Node;
 use nodes::read::{entry_key, entry_weight};
 use nodes::search::keys_up_to;
-use std::cmp::Ordering;
 use store::blocks::Store;
 use store::fault::Fault;
-
-// Whether the key is there, and how many nodes below the first are full.
-#[derive(Clone, Copy)]
-pub struct Path {
-    pub present: bool,
-    pub full: u32,
-}
 
 // Whether a leaf has a key.
 pub fn has_key<K: Key, S: Store>(store: &mut S, block: u32, key: &K) -> Result<bool, Fault> {
     let n = keys_up_to(store, block, key)?;
-    if n == 0 {
-        return Ok(false);
-    }
-    let last: K = entry_key(store, block, n - 1)?;
-    Ok(last.cmp(key) == Ordering::Equal)
+    Ok(n > 0 && entry_key::<K, S>(store, block, n - 1)? == *key)
 }
 
-// Looks down the way of a key from a node of this level.
-pub fn survey<K: Key, S: Store>(
-    store: &mut S,
-    block: u32,
-    level: u32,
-    key: &K,
-) -> Result<Path, Fault>
-    ensures { elim result [ Ok p ↦ p.full ≤ level | Err f ↦ Unit {0} ] }
+// How many nodes below this one are full on the way of a key, or nothing where the key is present.
+pub fn survey<K: Key, S: Store>(store: &mut S, node: Node, key: &K) -> Result<Option<u32>, Fault>
+    ensures { IfOk result (λ found. IfSome found (λ full. full ≤ node.level)) }
 {
-    if level == 0 {
-        let present = has_key(store, block, key)?;
-        return Ok(Path { present, full: 0 });
+    if node.level == 0 {
+        let present = has_key(store, node.block, key)?;
+        return Ok(if present { None } else { Some(0) });
     }
-    let way = way_down(store, block, key)?;
-    let weight = entry_weight(store, block, way.place)?;
-    let below = survey(store, way.child, level - 1, key)?;
-    let full = below.full + u32::from(weight == limit(level - 1));
-    Ok(Path {
-        present: below.present,
-        full,
-    })
+    let way = way_down(store, node, key)?;
+    let weight = entry_weight(store, way.parent, way.place)?;
+    let Some(full) = survey(store, way.child, key)? else {
+        return Ok(None);
+    };
+    Ok(Some(full + u32::from(weight == limit(way.child.level))))
 }

@@ -103,7 +103,7 @@ times_one f c e = omega (arith, times_append c (f e) [])
 pub block_number_is : (c : ℕ) → c ≤ limit → block_number c ≡ c
 block_number_is c h = cond-true (leb c limit) c 0 (le-leb c limit h)
 
-not_greater : (r : Ordering) → (r ≡ Greater → ⊥) → is_le r ≡ true
+pub not_greater : (r : Ordering) → (r ≡ Greater → ⊥) → is_le r ≡ true
 not_greater Less h = refl
 not_greater Equal h = refl
 not_greater Greater h = absurd (h refl)
@@ -143,14 +143,14 @@ module _ {K : Type 0} (κ : Kind K) where
 -- the child that the way of k leads to, named by the entry at its place
 pub record Child {K : Type 0} (κ : Kind K) (unit : ℕ → ℕ) (m : Meaning) (l b : ℕ) (k : K) (w : Way) : Type 0 where
   pub within : w.place < m.words b 1
-  pub names : w.child ≡ (entry_at κ.form (m.words b) w.place).child
+  pub names : w.child.block ≡ (entry_at κ.form (m.words b) w.place).child
   pub right : Right κ m.words (suc l) (entry_at κ.form (m.words b) w.place)
   pub routed : Routed κ.order unit l k (node κ m.words (suc l) b) w.place
-  pub is : get_or (node κ m.words (suc l) b) w.place [] ≡ node κ m.words l w.child
-  pub fit : Fit K unit (suc l) (node κ m.words l w.child)
-  pub sits : Sits κ unit m l w.child
+  pub is : get_or (node κ m.words (suc l) b) w.place [] ≡ node κ m.words l w.child.block
+  pub fit : Fit K unit (suc l) (node κ m.words l w.child.block)
+  pub sits : Sits κ unit m l w.child.block
   pub parts : (c : ℕ) → times c (feet κ m.words (suc l) b)
-      ≡ cond (eqb c b) 1 0 + (times c (joined (foot κ m.words (suc l)) (take w.place (entries κ.form (m.words b)))) + (times c (feet κ m.words l w.child) + times c (joined (foot κ m.words (suc l)) (drop (w.place + 1) (entries κ.form (m.words b))))))
+      ≡ cond (eqb c b) 1 0 + (times c (joined (foot κ m.words (suc l)) (take w.place (entries κ.form (m.words b)))) + (times c (feet κ m.words l w.child.block) + times c (joined (foot κ m.words (suc l)) (drop (w.place + 1) (entries κ.form (m.words b))))))
   pub split : entries κ.form (m.words b) ≡ take w.place (entries κ.form (m.words b)) ++ ((entry_at κ.form (m.words b) w.place ∷ []) ++ drop (w.place + 1) (entries κ.form (m.words b)))
 
 module _ {K : Type 0} (κ : Kind K) (law : Lawful κ) (unit : ℕ → ℕ) (units : Units unit) where
@@ -190,12 +190,12 @@ module _ {K : Type 0} (κ : Kind K) (law : Lawful κ) (unit : ℕ → ℕ) (unit
       let long : length (keys_in κ.unpacked es) ≡ ω b 1 = length-map es (λ (d : Entry). κ.unpacked d.key) ∙ entries_length κ.form (ω b) in
       let within : i < ω b 1 = omega (arith, led.place, sp.within, s.kids) in
       let right : Right κ ω (suc l) e = all_at (Right κ ω (suc l)) κ.form (ω b) i within s.whole.2 in
-      let names : w.child ≡ e.child = led.child ∙ block_number_is e.child right.2 in
+      let names : w.child.block ≡ e.child = led.child ∙ block_number_is e.child right.2 in
       let routed : Routed κ.order unit l k (node κ ω (suc l) b) i = subst (Routed κ.order unit l k (node κ ω (suc l) b)) (sym led.place) (routed_split m l b led.upto k s sp) in
-      let is : get_or (node κ ω (suc l) b) i [] ≡ node κ ω l w.child = item_at κ ω (suc l) b i [] within ∙ ap (node κ ω l) (sym names) in
-      let fit : Fit K unit (suc l) (node κ ω l w.child) = subst (λ z. Fit K unit (suc l) (node κ ω l z)) (sym names) (all_items_at κ (Fit K unit) ω (suc l) b i within s.fits) in
+      let is : get_or (node κ ω (suc l) b) i [] ≡ node κ ω l w.child.block = item_at κ ω (suc l) b i [] within ∙ ap (node κ ω l) (sym names) in
+      let fit : Fit K unit (suc l) (node κ ω l w.child.block) = subst (λ z. Fit K unit (suc l) (node κ ω l z)) (sym names) (all_items_at κ (Fit K unit) ω (suc l) b i within s.fits) in
       let split = entries_split κ.form (ω b) i within in
-      let parts : (c : ℕ) → times c (feet κ ω (suc l) b) ≡ cond (eqb c b) 1 0 + (times c (joined f (take i es)) + (times c (feet κ ω l w.child) + times c (joined f (drop (i + 1) es)))) = λ c.
+      let parts : (c : ℕ) → times c (feet κ ω (suc l) b) ≡ cond (eqb c b) 1 0 + (times c (joined f (take i es)) + (times c (feet κ ω l w.child.block) + times c (joined f (drop (i + 1) es)))) = λ c.
       omega (arith, ap (λ z. times c (joined f z)) split, times_three f c (take i es) (e ∷ []) (drop (i + 1) es), times_one f c e, ap (λ z. times c (feet κ ω l z)) names) in
       record {
         within = within;
@@ -208,7 +208,7 @@ module _ {K : Type 0} (κ : Kind K) (law : Lawful κ) (unit : ℕ → ℕ) (unit
           wide = s.wide;
           whole = subst (Whole κ ω l) (sym names) (right.3, right.4, right.5);
           owned = λ c. omega (arith, parts c, s.owned c);
-          kids = kids K unit units l (node κ ω l w.child) fit;
+          kids = kids K unit units l (node κ ω l w.child.block) fit;
           fits = fit.2;
           light = fit.1;
           ascending = subst (λ y. Sorted κ.order (pairs K (suc l) y)) is routed.mid_asc;

@@ -11,11 +11,8 @@ impl<S: Store> Index<Checkpoint, S> {
     pub fn resume(&mut self, case: u32) -> Result<Option<Pair<Checkpoint>>, Fault> {
         let last = Checkpoint {
             case,
-            step: 4_294_967_295,
+            step: u32::MAX,
         };
-        match self.floor(&last)? {
-            Some(pair) if pair.key.case == case => Ok(Some(pair)),
-            _ => Ok(None),
-        }
+        Ok(self.floor(&last)?.filter(|pair| pair.key.case == case))
     }
 }

@@ -1,6 +1,8 @@
 -- Eight bytes and their word, and a list by its places.
 use Rattle.std.specs.Prelude.{◌≡◌, ℕ, zero, suc, ◌+◌, ◌*◌, ◌/◌, ◌%◌, ◌^◌, ◌<◌, List, [], ◌∷◌, ◌++◌, length, drop, slice_index, refl}
-use Rattle.std.proofs.Common.{sym, ap, ◌∙◌, arith, drop-cons}
+use Rattle.std.proofs.Common.{sym, ap, ◌∙◌, arith, drop-cons, slice_index_or, w64}
+use Rattle.std.specs.Int.{from_be_bytes}
+use Rattle.std.specs.Simd.{first_chunks}
 use Rattle.std.proofs.lemmas.List.{drop_all}
 use Rattle.keys.specs.Documents.{word_at, bytes_of, bytes_of_all}
 
@@ -48,3 +50,14 @@ word_of bs (suc (suc (suc (suc i)))) h = absurd (omega arith)
 pub four : (a b c d : List ℕ) (ws : List ℕ) → a ≡ bytes_of (slice_index ws 0) → b ≡ bytes_of (slice_index ws 1) → c ≡ bytes_of (slice_index ws 2) → d ≡ bytes_of (slice_index ws 3) →
     gets a 0 8 ++ (gets b 0 8 ++ (gets c 0 8 ++ gets d 0 8)) ≡ bytes_of_all ws
 four a b c d ws p q r s = λ i. gets (p i) 0 8 ++ (gets (q i) 0 8 ++ (gets (r i) 0 8 ++ gets (s i) 0 8))
+
+-- the bytes of a place of four, cut off in eights, spell its word
+pub chunk_of : (bs : List ℕ) (i : ℕ) (d : List ℕ) → length bs ≡ 32 → i < 4 → from_be_bytes w64 (slice_index_or (first_chunks 8 4 bs) i d) ≡ word_at bs (8 * i)
+chunk_of bs i d e h = ap (λ xs. from_be_bytes w64 (slice_index_or (first_chunks 8 4 xs) i d)) (sym (gets_drop bs 0 32 e)) ∙ go i h
+  where
+    go : (i : ℕ) → i < 4 → from_be_bytes w64 (slice_index_or (first_chunks 8 4 (gets bs 0 32)) i d) ≡ word_at bs (8 * i)
+    go zero h = refl
+    go (suc zero) h = refl
+    go (suc (suc zero)) h = refl
+    go (suc (suc (suc zero))) h = refl
+    go (suc (suc (suc (suc i)))) h = absurd (omega arith)

@@ -13,6 +13,7 @@ pub trait Key: Copy + Ord {
     ghost unpacked: { List ℕ → Self };
 
     // How many words a key takes.
+    // a function and no constant: callers and other kinds go by this name, and a constant beside it would say it twice
     fn words() -> u32
         ensures { result ≡ width };
 

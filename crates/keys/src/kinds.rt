@@ -57,7 +57,7 @@ impl Key for Checkpoint {
 
     fn word(&self, i: u32) -> u64 {
         if i == 0 {
-            self.case as u64 * 4_294_967_296 + self.step as u64
+            u64::from(self.case) * 4_294_967_296 + u64::from(self.step)
         } else {
             0
         }
@@ -154,35 +154,23 @@ impl Key for DocumentName {
     }
 
     fn word(&self, i: u32) -> u64 {
-        if i >= 4 {
-            return 0;
+        let (words, _) = self.bytes.as_chunks::<8>();
+        match words.get(i as usize) {
+            Some(word) => u64::from_be_bytes(*word),
+            None => 0,
         }
-        let at = 8 * i as usize;
-        let b = self.bytes;
-        u64::from_be_bytes([
-            b[at],
-            b[at + 1],
-            b[at + 2],
-            b[at + 3],
-            b[at + 4],
-            b[at + 5],
-            b[at + 6],
-            b[at + 7],
-        ])
     }
 
     fn from_words(words: &[u64]) -> DocumentName {
-        let a = word_at(words, 0).to_be_bytes();
-        let b = word_at(words, 1).to_be_bytes();
-        let c = word_at(words, 2).to_be_bytes();
-        let d = word_at(words, 3).to_be_bytes();
-        DocumentName {
-            bytes: [
-                a[0], a[1], a[2], a[3], a[4], a[5], a[6], a[7], b[0], b[1], b[2], b[3], b[4], b[5],
-                b[6], b[7], c[0], c[1], c[2], c[3], c[4], c[5], c[6], c[7], d[0], d[1], d[2], d[3],
-                d[4], d[5], d[6], d[7],
-            ],
-        }
+        let parts = [
+            word_at(words, 0).to_be_bytes(),
+            word_at(words, 1).to_be_bytes(),
+            word_at(words, 2).to_be_bytes(),
+            word_at(words, 3).to_be_bytes(),
+        ];
+        let mut bytes = [0; 32];
+        bytes.copy_from_slice(parts.as_flattened());
+        DocumentName::from(bytes)
     }
 }
 

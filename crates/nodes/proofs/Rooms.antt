@@ -53,6 +53,6 @@ countable_same k b m n e l h = subst (Countable b) (sym e) (countable k b m l h)
 pub carry_same : (φ : Form) (from i to j n : ℕ) (l m o : Meaning) → m ≡ l → Carried φ from i to j n m tt o → o ≡ edit l to (carried φ (l.words from) i j n)
 carry_same φ from i to j n l m o e h = h ∙ ap (λ z. edit z to (carried φ (z.words from) i j n)) e
 
--- an edit after a read
-pub edit_same : (b : ℕ) (F : (ℕ → ℕ) → ℕ → ℕ) (l m o : Meaning) → m ≡ l → o ≡ edit m b F → o ≡ edit l b F
-edit_same b F l m o e h = h ∙ ap (λ z. edit z b F) e
+-- the same of a copy at these places
+pub carry_at : (φ : Form) (from i to j n : ℕ) {i' j' n' : ℕ} (l m o : Meaning) → m ≡ l → Carried φ from i' to j' n' m tt o → i' ≡ i → j' ≡ j → n' ≡ n → o ≡ edit l to (carried φ (l.words from) i j n)
+carry_at φ from i to j n l m o e h a b c = carry_same φ from _ to _ _ l m o e h ∙ (λ z. edit l to (carried φ (l.words from) (a z) (b z) (c z)))

@@ -6,7 +6,7 @@ use Rattle.std.proofs.lemmas.Bool.{cases_order}
 use Rattle.keys.specs.Orders.{Orderly}
 use Rattle.store.specs.Meaning.{Meaning}
 use Rattle.nodes.specs.Places.{Form}
-use Rattle.nodes.specs.Nodes.{Entry, entry_at, entries, upto, Keyed}
+use Rattle.nodes.specs.Nodes.{Entry, entry_at, entries, upto}
 use Rattle.keys.specs.Sorted.{Ascending}
 use Rattle.nodes.specs.Finds.{Sought, SplitAt, Found, key_of, keys_in}
 use Rattle.nodes.proofs.Upto.{length_upto, get_or_upto, take_upto, drop_upto}
@@ -66,24 +66,10 @@ pub record Between {K : Type 0} (order : K → K → Ordering) (key : ℕ → K)
   pub last : 0 < low → order (key (low - 1)) q ≡ Greater → ⊥
   pub next : high < n → order (key high) q ≡ Greater
 
-module _ {K : Type 0} (order : K → K → Ordering) (key : ℕ → K) (n : ℕ) (q : K) (low high : ℕ) where
-  pub between_all : (h : ℕ) → low ≡ 0 → high ≡ h → h ≡ n → Between order key n q low high
-  between_all h e f d = record { within = omega arith; last = λ l. absurd (omega arith); next = λ l. absurd (omega arith) }
-
-  pub between_down : (mid : ℕ) → mid < high → order (key mid) q ≡ Greater → Between order key n q low high → Between order key n q low mid
-  between_down mid l e h = record { within = omega (arith, h.within); last = h.last; next = λ _. e }
-
-  pub between_up : (mid mid' : ℕ) → mid' ≡ mid + 1 → (order (key mid) q ≡ Greater → ⊥) → Between order key n q low high → Between order key n q mid' high
-  between_up mid mid' d ne h = record { within = h.within; last = λ l e. ne (ap (λ z. order (key z) q) (omega arith) ∙ e); next = h.next }
-
-  pub between_met : low ≤ high → high ≤ low → Between order key n q low high → Sought order key n q low
-  between_met l m h =
-      let e : high ≡ low = omega arith in
-      record { within = omega (arith, h.within); last = h.last; next = λ x. ap (λ z. order (key z) q) (sym e) ∙ h.next (omega arith) }
-
--- the key that was read is that of the words as the search began
-pub key_there : {K : Type 0} (φ : Form) (unpacked : List ℕ → K) (b i : ℕ) (l m n : Meaning) (x : K) → m ≡ l → Keyed φ unpacked b i m x n → x ≡ key_of φ unpacked (l.words b) i
-key_there φ unpacked b i l m n x e h = h.value ∙ ap (λ z. key_of φ unpacked (z.words b) i) e
+pub between_met : {K : Type 0} (order : K → K → Ordering) (key : ℕ → K) (n : ℕ) (q : K) (low high : ℕ) → low ≤ high → high ≤ low → Between order key n q low high → Sought order key n q low
+between_met order key n q low high l m h =
+    let e : high ≡ low = omega arith in
+    record { within = omega (arith, h.within); last = h.last; next = λ x. ap (λ z. order (key z) q) (sym e) ∙ h.next (omega arith) }
 
 pub found : {K : Type 0} (order : K → K → Ordering) (law : Orderly order) (φ : Form) (unpacked : List ℕ → K) (b : ℕ) (q : K) (r : ℕ) (m u n : Meaning) → u ≡ m → n ≡ u → Sought order (key_of φ unpacked (u.words b)) (u.words b 1) q r → Found φ order unpacked b q m r n
 found order law φ unpacked b q r m u n e d h =

@@ -12,6 +12,7 @@ use store::blocks::Store;
 use store::fault::Fault;
 
 // Copies `n` entries, those from place `i` on in block `from`, to the places from `j` on in `to`.
+// block and place are two parameters, as in every reading and verb of a node
 pub fn copy_entries<K: Key, S: Store>(
     store: &mut S,
     from: u32,

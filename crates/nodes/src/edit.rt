@@ -1,4 +1,5 @@
 // Entries of a node written, put in, taken out, and moved between nodes.
+// block and place are two parameters, as a slice and an index are: a change of one place moves others of its block
 ghost use Rattle.std.specs.Prelude.{◌<◌, ◌≤◌};
 ghost use Rattle.store.specs.Calls.{Leaves};
 ghost use Rattle.copies.specs.Work.{Work};
@@ -42,6 +43,7 @@ fn put_entry<K: Key, S: Store>(
 }
 
 // Writes an entry over the one at place i.
+#[tactic(auto, using(crate::proofs::Lists::replace_holds))]
 pub fn replace_entry<K: Key, S: Store>(
     store: &mut S,
     block: u32,

@@ -20,8 +20,8 @@ pub struct Header {
 pub fn put_header<K: Key, S: Store>(store: &mut S, block: u32, header: &Header) -> Result<(), Fault>
     ensures { Leaves S.meaning S.ready (Work (Headroom block) (Edited block (filled 0 (header_words K.width header.now) 4))) store.old result store.new }
 {
-    store.set(block, 0, K::words() as u64)?;
-    store.set(block, 1, header.root.block as u64)?;
-    store.set(block, 2, header.root.level as u64)?;
+    store.set(block, 0, u64::from(K::words()))?;
+    store.set(block, 1, u64::from(header.root.block))?;
+    store.set(block, 2, u64::from(header.root.level))?;
     store.set(block, 3, header.keys)
 }

@@ -7,6 +7,8 @@ use store::blocks::LARGEST_BLOCK;
 use store::fault::{Fault, Refusal};
 
 // How many entries a node has places for.
+// a place is a plain number, with its bound at each use: it is computed anew from a count just read (the first,
+// the last, the middle, the next), so a type for it would be built by the same proof at each of these calls
 pub const PLACES: u32 = 80;
 
 // The place of a node's level, and of its count.
@@ -46,10 +48,12 @@ pub fn child_at<K: Key>(i: u32) -> u32
 }
 
 // A stored word as a block number: 0, which no store grants, where it is none.
+// no Option: a way that leads nowhere is refused by the store itself where it is followed, with no case of its own
+#[tactic(auto, unfolding(store::specs::Meaning::limit))]
 pub fn block_of(word: u64) -> u32
     ensures { result ≡ block_number word }
 {
-    if word <= LARGEST_BLOCK as u64 {
+    if word <= u64::from(LARGEST_BLOCK) {
         word as u32
     } else {
         0

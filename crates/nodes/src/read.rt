@@ -1,4 +1,5 @@
 // Parts of a node, read.
+// block and place are two parameters, as a slice and an index are: callers read several places of one block
 ghost use Rattle.std.specs.Prelude.{◌<◌, ◌≤◌, IfOk};
 ghost use Rattle.store.specs.Calls.{Leaves};
 ghost use Rattle.copies.specs.Work.{Work, Fails};
@@ -18,13 +19,14 @@ pub fn count<S: Store>(store: &mut S, block: u32) -> Result<u32, Fault>
     ensures refuses { Leaves S.meaning S.ready (Fails (Overfull block) (Damage block)) store.old result store.new }
 {
     let n = store.get(block, COUNT_AT)?;
-    if n > PLACES as u64 {
+    if n > u64::from(PLACES) {
         return Err(damaged(block));
     }
     Ok(n as u32)
 }
 
 // The weight of entry i.
+#[tactic(auto, unfolding(crate::specs::Nodes::entry_at))]
 pub fn entry_weight<S: Store>(store: &mut S, block: u32, i: u32) -> Result<u64, Fault>
     requires { i < 80 }
     ensures { Leaves S.meaning S.ready (Work (Word block (weight_at i)) (Weighs block i)) store.old result store.new }
@@ -37,15 +39,17 @@ pub fn entry_key<K: Key, S: Store>(store: &mut S, block: u32, i: u32) -> Result<
     requires { i < 80 }
     ensures { Leaves S.meaning S.ready (Work (Room (form K.width) block) (Keyed (form K.width) K.unpacked block i)) store.old result store.new }
 {
+    // a part of an array and no Vec: no heap here, and no key has more words
     let mut words = [0u64; 4];
-    let width = K::words();
-    for j in 0..width {
-        words[j as usize] = store.get(block, key_at::<K>(i) + j)?;
+    let key = &mut words[..K::words() as usize];
+    for (j, word) in key.iter_mut().enumerate() {
+        *word = store.get(block, key_at::<K>(i) + j as u32)?;
     }
-    Ok(K::from_words(&words[0..width as usize]))
+    Ok(K::from_words(key))
 }
 
 // The child or handle of entry i.
+#[tactic(auto, using(crate::proofs::Rooms::room_place), unfolding(crate::specs::Nodes::entry_at))]
 pub fn entry_child<K: Key, S: Store>(store: &mut S, block: u32, i: u32) -> Result<u64, Fault>
     requires { i < 80 }
     ensures { Leaves S.meaning S.ready (Work (Room (form K.width) block) (Leads (form K.width) block i)) store.old result store.new }

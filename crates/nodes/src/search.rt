@@ -8,7 +8,6 @@ ghost use Rattle.nodes.specs.Finds.{Found};
 
 use crate::read::{count, entry_key};
 use keys::key::Key;
-use std::cmp::Ordering;
 use store::blocks::Store;
 use store::fault::Fault;
 
@@ -18,12 +17,13 @@ pub fn keys_up_to<K: Key, S: Store>(store: &mut S, block: u32, q: &K) -> Result<
     ensures finds { Leaves S.meaning S.ready (Work (Node (form K.width) block) (Found (form K.width) K.cmp K.unpacked block q.now)) store.old result store.new }
     ensures refuses { Leaves S.meaning S.ready (Fails (Overfull block) (Damage block)) store.old result store.new }
 {
+    // by hand: the keys are read through a store that may fail, and no search of the library halves over such reads
     let mut low = 0;
     let mut high = count(store, block)?;
     while low < high {
         let mid = low + (high - low) / 2;
         let key: K = entry_key(store, block, mid)?;
-        if key.cmp(q) == Ordering::Greater {
+        if key > *q {
             high = mid;
         } else {
             low = mid + 1;

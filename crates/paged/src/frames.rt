@@ -35,7 +35,8 @@ fn note(seen: &mut [u8], frame: usize) -> bool
     fresh
 }
 
-// Whether each entry of a map names a frame that there is, and no two name the same.
+// Whether each entry of a map names a frame that there is, and no two name the same. A loop and no `all`: of a closure
+// that changes what it captures, a proof learns nothing from the chain.
 fn once_each(map: &[u32], seen: &mut [u8]) -> bool
     requires { (k : ℕ) → slice_index seen.old k ≡ 0 }
     ensures { Judged map.now (length map.now) (length seen.old) result }

@@ -1,7 +1,6 @@
 // A block store in lent runs: words, a mark for each block, and a map. The words are cut into frames of 64, counted
 // from 0, and each block has as many whole frames as its width needs. The map names them, those of block 1 first.
 // No entry past those of the store's blocks is read, nor a mark past them, and none of the words past the last whole frame.
-ghost use Rattle.std.specs.Prelude.{◌≡◌};
 ghost use Rattle.paged.specs.Opened.{frames_plan};
 ghost use Rattle.paged.specs.Laws.Frames.{frames_lawful};
 

@@ -26,12 +26,9 @@ mod tests {
         }
     }
 
-    // The number of a refusal, or 0.
-    fn number<T: Drop>(answer: Result<T, Fault>) -> u32 {
-        match answer {
-            Ok(_) => 0,
-            Err(fault) => fault.refusal.number(),
-        }
+    // The number of a refusal.
+    fn number<T: Drop>(answer: Result<T, Fault>) -> Option<u32> {
+        answer.err().map(|fault| fault.refusal.number())
     }
 
     // Blocks of such a width: the last word of block 2 stands at so many words from the start.
@@ -52,7 +49,7 @@ mod tests {
         assert_eq!(rt; store.stock()?.capacity, capacity);
         assert_eq!(rt; store.take()?, 1);
         assert_eq!(rt; store.take()?, 2);
-        assert_eq!(rt; number(store.set(2, width, 6)), 9);
+        assert_eq!(rt; number(store.set(2, width, 6)), Some(9));
         store.set(2, last, 5)?;
         let runs = store.into_runs();
         assert_eq!(rt; runs.words.get(at).copied(), Some(5));
@@ -76,10 +73,10 @@ mod tests {
         else {
             return Err(Fail::new("unfit"));
         };
-        assert_eq!(rt; number(store.give_back(1)), 8);
+        assert_eq!(rt; number(store.give_back(1)), Some(8));
         assert_eq!(rt; store.get(2, 64)?, 7);
         assert_eq!(rt; store.take()?, 1);
-        assert_eq!(rt; number(store.take()), 6);
+        assert_eq!(rt; number(store.take()), Some(6));
         let runs = store.into_runs();
         assert_eq!(rt; runs.marks.get(0).copied(), Some(1));
         assert_eq!(rt; runs.marks.get(2).copied(), Some(9));
@@ -87,26 +84,26 @@ mod tests {
         Ok(())
     }
 
-    // The number of the refusal of a map and a width over four frames, or 0.
-    fn refused(heap: Global, map: [u32; 3], width: u32) -> u32 {
+    // Whether a store is made of a map and a width over four frames, or the number of the refusal; none for want of memory.
+    fn made(heap: Global, map: [u32; 3], width: u32) -> Result<(), Option<u32>> {
         let mut words = [0; 300];
         let mut marks = [0; 4];
         match PagedStore::fresh(runs(heap, &mut words, &mut marks, &map), width) {
-            Ok(_) => 0,
+            Ok(_) => Ok(()),
             Err(unfit) => match unfit.cause {
-                Unmade::Refused(fault) => fault.refusal.number(),
-                Unmade::NoMemory => 99,
+                Unmade::Refused(fault) => Err(Some(fault.refusal.number())),
+                Unmade::NoMemory => Err(None),
             },
         }
     }
 
     #[test]
     fn refuses_maps(rt: HostRuntime) {
-        assert_eq!(rt; refused(rt.alloc(), [0, 3, 0], 64), 10);
-        assert_eq!(rt; refused(rt.alloc(), [0, 1, 4], 64), 10);
-        assert_eq!(rt; refused(rt.alloc(), [0, 3, 3], 65), 0);
-        assert_eq!(rt; refused(rt.alloc(), [0, 1, 2], 0), 10);
-        assert_eq!(rt; refused(rt.alloc(), [0, 1, 2], 513), 10);
+        assert_eq!(rt; made(rt.alloc(), [0, 3, 0], 64), Err(Some(10)));
+        assert_eq!(rt; made(rt.alloc(), [0, 1, 4], 64), Err(Some(10)));
+        assert_eq!(rt; made(rt.alloc(), [0, 3, 3], 65), Ok(()));
+        assert_eq!(rt; made(rt.alloc(), [0, 1, 2], 0), Err(Some(10)));
+        assert_eq!(rt; made(rt.alloc(), [0, 1, 2], 513), Err(Some(10)));
     }
 
     #[test]
@@ -117,7 +114,7 @@ mod tests {
         else {
             return Err(Fail::new("unfit"));
         };
-        assert_eq!(rt; number(store.take()), 6);
+        assert_eq!(rt; number(store.take()), Some(6));
         Ok(())
     }
 }

@@ -47,7 +47,8 @@ pub fn over_table<'a>(
     over_fresh(runs, width, |store| through_cache(store, table, p, word))
 }
 
-// Uses one block of a store through a cache and a quota of p blocks above it. A fault met in closing is the answer.
+// Uses one block of a store through a cache and a quota of p blocks above it. A fault met in closing is the answer, one
+// deeper than without the quota, so the ending is not shared with a bare cache.
 pub fn through_cache<S: Store>(store: S, table: LineTable, p: u64, word: u64) -> Ended<Fault, S>
     ensures { S.ready store → Unused table → Left (Use (quota_shape p (cached_shape (S.meaning store).shape)) word (S.meaning store) result.answer (S.meaning result.back)) (S.ready result.back) }
 {

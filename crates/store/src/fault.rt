@@ -58,7 +58,8 @@ impl fmt::Display for Refusal {
     }
 }
 
-// `block` is 0 where no block is meant. The store right under the index has depth 1.
+// `block` is 0 where no block is meant, and no `Option`: the number is part of what a fault tells, in words and to callers
+// that know numbers only, and no store grants block 0. The store right under the index has depth 1.
 #[derive(Clone, Copy, PartialEq, Eq, Debug)]
 pub struct Fault {
     pub refusal: Refusal,

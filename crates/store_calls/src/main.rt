@@ -8,13 +8,15 @@ mod piles;
 use cache::cached::Cache;
 use cache::line::LineTable;
 use call::Call;
-use paged::paged::PagedStore;
+use paged::paged::{Frames, PagedStore};
 use parse::parse;
-use piles::{Pile, answers};
+use piles::{answers, read_below};
 use quota::quota::Quota;
 use std::alloc::{AllocError, Global};
 use std::io::Read;
-use stores::table::TableStore;
+use store::blocks::Store;
+use stores::lent::Runs;
+use stores::table::{Rows, TableStore};
 
 const BLOCKS: usize = 40;
 
@@ -63,40 +65,64 @@ const PILES: [(&str, Layers, Bottom); 10] = [
 ];
 
 // What the layers answer over a store.
-fn over<S: Pile + Drop>(
+fn over<S: Store + Drop>(
     heap: Global,
     layers: Layers,
     store: S,
     calls: &[Call],
 ) -> Result<String, AllocError> {
     match layers {
-        Layers::Bare => answers(heap, store, calls),
-        Layers::Quota(limit) => answers(heap, Quota::new(store, limit), calls),
-        Layers::Cache(lines) => match LineTable::new(heap, lines) {
-            Ok(table) => answers(heap, Cache::new(store, table), calls),
-            Err(_) => no_cache(heap),
-        },
-        Layers::QuotaOverCache(limit, lines) => match LineTable::new(heap, lines) {
-            Ok(table) => answers(heap, Quota::new(Cache::new(store, table), limit), calls),
-            Err(_) => no_cache(heap),
-        },
-        Layers::CacheOverQuota(lines, limit) => match LineTable::new(heap, lines) {
-            Ok(table) => answers(heap, Cache::new(Quota::new(store, limit), table), calls),
-            Err(_) => no_cache(heap),
-        },
+        Layers::Bare => answers(heap, store, calls, |_, _| Ok(())),
+        Layers::Quota(limit) => answers(heap, Quota::new(store, limit), calls, |quota, _| {
+            drop(quota.end());
+            Ok(())
+        }),
+        Layers::Cache(lines) => cached(heap, lines, |table| {
+            answers(heap, Cache::new(store, table), calls, |cache, session| {
+                read_below(cache.close(), session).1
+            })
+        }),
+        Layers::QuotaOverCache(limit, lines) => cached(heap, lines, |table| {
+            let pile = Quota::new(Cache::new(store, table), limit);
+            answers(heap, pile, calls, |quota, session| {
+                read_below(quota.end().close(), session).1
+            })
+        }),
+        Layers::CacheOverQuota(lines, limit) => cached(heap, lines, |table| {
+            let pile = Cache::new(Quota::new(store, limit), table);
+            answers(heap, pile, calls, |cache, session| {
+                let (quota, read) = read_below(cache.close(), session);
+                drop(quota.end());
+                read
+            })
+        }),
     }
 }
 
-// No cache of so many lines can be made.
-fn no_cache(heap: Global) -> Result<String, AllocError> {
-    String::from_str(heap, "no such cache\n")
+// What a pile answers that needs a table of so many lines.
+fn cached<F: FnOnce(LineTable) -> Result<String, AllocError>>(
+    heap: Global,
+    lines: u32,
+    pile: F,
+) -> Result<String, AllocError>
+    requires { F.IsAlwaysCallable pile }
+{
+    match LineTable::new(heap, lines) {
+        Ok(table) => pile(table),
+        Err(_) => String::from_str(heap, "no such cache\n"),
+    }
 }
 
-// What the layers answer over a fresh table store.
+// What the layers answer over a fresh table store. It and the next differ in the store's type and in what is lent to it.
 fn over_table(heap: Global, layers: Layers, calls: &[Call]) -> Result<String, AllocError> {
     let mut words = vec![in heap; 7u64; BLOCKS * WIDTH]?;
     let mut marks = vec![in heap; 1u8; BLOCKS + 3]?;
-    match TableStore::fresh(&mut words, &mut marks, WIDTH as u32) {
+    let runs = Runs {
+        words: &mut words,
+        marks: &mut marks,
+        layout: Rows,
+    };
+    match TableStore::fresh(runs, WIDTH as u32) {
         Ok(store) => over(heap, layers, store, calls),
         Err(_) => String::from_str(heap, "misfit\n"),
     }
@@ -107,7 +133,12 @@ fn over_pages(heap: Global, layers: Layers, calls: &[Call]) -> Result<String, Al
     let mut words = vec![in heap; 7u64; FRAMES * 64]?;
     let mut marks = vec![in heap; 1u8; BLOCKS]?;
     let map: Vec<u32> = (0..FRAMES as u32).rev().collect(heap)?;
-    match PagedStore::fresh(heap, &mut words, &mut marks, &map, WIDTH as u32) {
+    let runs = Runs {
+        words: &mut words,
+        marks: &mut marks,
+        layout: Frames { map: &map, heap },
+    };
+    match PagedStore::fresh(runs, WIDTH as u32) {
         Ok(store) => over(heap, layers, store, calls),
         Err(_) => String::from_str(heap, "misfit\n"),
     }

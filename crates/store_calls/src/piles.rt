@@ -1,56 +1,34 @@
 // The same calls on a store and on any pile of layers over it.
 use crate::call::{Call, Session};
-use cache::cached::{Cache, Closed};
-use paged::paged::PagedStore;
-use quota::quota::Quota;
 use std::alloc::{AllocError, Global};
 use store::blocks::Store;
-use stores::table::TableStore;
+use store::fault::{Fault, Refused};
 
-// Layers over a store. They are taken off from the top, and below each cache the reads are made once more.
-pub(crate) trait Pile: Store {
-    fn take_apart(self, session: &mut Session) -> Result<(), AllocError>;
-}
-
-impl Pile for TableStore<'_> {
-    fn take_apart(self, _session: &mut Session) -> Result<(), AllocError> {
-        Ok(())
-    }
-}
-
-impl Pile for PagedStore<'_> {
-    fn take_apart(self, _session: &mut Session) -> Result<(), AllocError> {
-        Ok(())
-    }
-}
-
-impl<S: Pile> Pile for Quota<S> {
-    fn take_apart(self, session: &mut Session) -> Result<(), AllocError> {
-        self.end().take_apart(session)
-    }
-}
-
-impl<S: Pile> Pile for Cache<S> {
-    fn take_apart(self, session: &mut Session) -> Result<(), AllocError> {
-        let Closed {
-            mut store,
-            fault: _,
-        } = self.close();
-        let read = session.make_reads(&mut store);
-        store.take_apart(session)?;
-        read
-    }
-}
-
-// What a pile answers to the calls.
-pub(crate) fn answers<P: Pile>(
+// What a pile answers to the calls. `take_apart` takes its layers off, from the top.
+pub(crate) fn answers<P: Store, F: FnOnce(P, &mut Session) -> Result<(), AllocError>>(
     heap: Global,
     mut pile: P,
     calls: &[Call],
-) -> Result<String, AllocError> {
+    take_apart: F,
+) -> Result<String, AllocError>
+    requires { F.IsAlwaysCallable take_apart }
+{
     let mut session = Session::new(heap, calls);
     let made = session.make_all(&mut pile);
-    pile.take_apart(&mut session)?;
+    take_apart(pile, &mut session)?;
     made?;
     Ok(session.end())
+}
+
+// Makes the reads once more on the store below a cache that was closed.
+pub(crate) fn read_below<S: Store>(
+    closed: Result<S, Refused<Fault, S>>,
+    session: &mut Session,
+) -> (S, Result<(), AllocError>) {
+    let mut store = match closed {
+        Ok(store) => store,
+        Err(Refused { cause: _, back }) => back,
+    };
+    let read = session.make_reads(&mut store);
+    (store, read)
 }

@@ -13,7 +13,7 @@ use Rattle.stores.specs.Plan.{Plan, block_at, Suits, StoreFits}
 use Rattle.stores.specs.Located.{Found}
 use Rattle.stores.specs.Grants.{Removing, Clearing, Counting, Spare, Free}
 use Rattle.stores.specs.Opened.{means, Ready, Fresh, Reopened, ReopenedOr, StillMeans}
-use Rattle.stores.specs.Steps.{Becomes, Put, Cleared, Wiping, Granting, Over}
+use Rattle.stores.specs.Steps.{Becomes, Put, Cleared, Granting, Over}
 use Rattle.stores.specs.Laws.Clearing.{wiped_none, wiped_more, wiped_length, cleared_length}
 use Rattle.stores.specs.Laws.Laid.{one_less, one_more, laid_blank, count_blank, count_capacity, count_marked}
 use Rattle.stores.specs.Laws.Plans.{Lawful}
@@ -78,10 +78,6 @@ module _ {L E : Type 0} (plan : L → Plan E) where
         marks_are = p.marks_are ∙ d.marks_are;
         words_are = p.words_are ∙ ap₂ (λ xs k. set xs k 0) d.words_are here ∙ sym (wiped_more at s.words.now n);
       }
-
-  -- every word of it
-  pub wipe_all : {s t : LentStore L} (slot n : ℕ) → Cleared plan s slot n t → n ≡ s.width → Wiping plan s slot t
-  wipe_all {s} {t} slot n d e = subst (λ k. Cleared plan s slot k t) e d
 
   module _ (s : LentStore L) (law : Lawful (plan s.layout)) (f : Ready plan s) where
     -- a word changed

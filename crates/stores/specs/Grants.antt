@@ -31,9 +31,9 @@ pub record FreeAt (s : Grants) (slot : ℕ) : Type 0 where
   pub low : slot < s.capacity
   pub unused : slice_index s.marks.now slot ≡ 0
 
--- what a look from a slot on for a free one answers
+-- what a look from a slot on for a free one answers: the first there is
 abbrev pub FreeFrom : Grants → ℕ → Option ℕ → Type 0
-FreeFrom s start (Some slot) = FreeAt s slot
+FreeFrom s start (Some slot) = FreeAt s slot × ((k : ℕ) → start ≤ k → k < slot → slice_index s.marks.now k ≢ 0)
 FreeFrom s start None = (k : ℕ) → start ≤ k → k < s.capacity → slice_index s.marks.now k ≢ 0
 
 -- such a slot, where fewer are granted than may be; its block's number is a `u32`

@@ -5,7 +5,7 @@ ghost use Rattle.store.specs.Meaning.{count_to};
 ghost use Rattle.stores.specs.Table.{in_use};
 ghost use Rattle.stores.specs.Grants.{Adding, Removing, Clearing, Counting, FreeFrom, Free};
 
-use crate::runs::{clear, put};
+use crate::runs::{clear_marks, put};
 
 // `rover` is where the next free mark is looked for first: a hint, and any value will do.
 #[derive(Drop)]
@@ -35,7 +35,7 @@ impl<'a> Grants<'a> {
     pub fn clear(&mut self)
         ensures { Clearing self.old self.new }
     {
-        clear(self.marks, self.capacity as usize);
+        clear_marks(self.marks, self.capacity as usize);
     }
 
     // Counts the grants anew.

@@ -133,7 +133,7 @@ impl<'a, L: Layout> LentStore<'a, L> {
         put(self.words, at, word);
     }
 
-    // Clears the words of the block in a slot.
+    // Clears the words of the block in a slot, place by place: a layout may scatter them, so no slice has them.
     fn wipe(&mut self, slot: u32)
         ensures { Wiping L.plan self.old slot self.new }
     {

@@ -3,6 +3,7 @@ ghost use Rattle.std.specs.Prelude.{◌≡◌, slice_set};
 ghost use Rattle.stores.specs.Table.{cleared};
 
 // Writes a value at a place of a run.
+// By index: once a slice's `get_mut` is over, a proof knows the slice's length and not its elements.
 pub fn put<T: Copy>(run: &mut [T], at: usize, value: T)
     ensures { run.new ≡ slice_set run.old at value }
 {
@@ -11,10 +12,10 @@ pub fn put<T: Copy>(run: &mut [T], at: usize, value: T)
     }
 }
 
-// Writes 0 at the first n places of a run.
-pub fn clear(run: &mut [u8], n: usize)
-    ensures { run.new ≡ cleared 0 n run.old }
+// Writes 0 into the first n marks.
+pub fn clear_marks(marks: &mut [u8], n: usize)
+    ensures { marks.new ≡ cleared 0 n marks.old }
 {
-    let end = n.min(run.len());
-    run[..end].fill(0);
+    let end = n.min(marks.len());
+    marks[..end].fill(0);
 }

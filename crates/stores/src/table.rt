@@ -16,6 +16,7 @@ pub struct Rows;
 pub type TableStore<'a> = LentStore<'a, Rows>;
 
 // The most whole blocks that so many marks and words hold.
+#[tactic(auto, unfolding(store::specs::Meaning::limit))]
 pub fn most(width: u32, marks: usize, words: usize) -> u32
     requires { 1 ≤ width }
     ensures { result ≡ most_blocks width marks words }

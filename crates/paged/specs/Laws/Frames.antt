@@ -1,14 +1,19 @@
 -- Words scattered over frames stand each in a place of its own.
-use Rattle.std.specs.Prelude.{◌≡◌, ℕ, ◌*◌, ◌/◌, ◌<◌, ◌≤◌, List, length, slice_index_or}
+use Rattle.std.specs.Prelude.{◌≡◌, ℕ, ◌*◌, ◌/◌, ◌<◌, ◌≤◌, List, length, Err, slice_index_or}
 use Rattle.std.proofs.Common.{refl, subst, arith}
 use Rattle.store.specs.declared.fault.Unmade.{Unmade}
 use Rattle.store.specs.declared.fault.Unmade.TheVariants.{Refused, NoMemory}
+use Rattle.store.specs.declared.fault.Refused.{Refused as Refusal}
 use Rattle.store.specs.Meaning.{Sound}
+use Rattle.stores.specs.declared.lent.LentStore.{LentStore}
+use Rattle.stores.specs.declared.lent.Runs.{Runs}
 use Rattle.stores.specs.Table.{in_row}
+use Rattle.stores.specs.Opened.{means, StillMeans}
 use Rattle.stores.specs.Laws.Laid.{Lies, laid_sound}
 use Rattle.stores.specs.Plan.{Suits}
 use Rattle.stores.specs.Laws.Plans.{Lawful}
 use Rattle.stores.specs.Laws.Tables.{block_end, row_apart, most_fits}
+use Rattle.paged.specs.declared.paged.Frames.{Frames}
 use Rattle.paged.specs.Frames.{frames_of, paged_at, paged, Apt, Awry}
 use Rattle.paged.specs.Opened.{FramesFit, Misfits, Because, frames_plan}
 use Rattle.paged.specs.Opened.Misfits.{no_width, no_frames}
@@ -63,3 +68,11 @@ only_memory map {w} {marks} {words} {c} (Refused x) s b = absurd (never b.1)
 -- the laws of frames
 pub frames_lawful : (map : List ℕ) → Lawful (frames_plan map)
 frames_lawful map = record { lies = λ f. frames_lie f; spared = λ s b. only_memory map _ s b }
+
+-- what a store over frames means
+pub paged_means : (s : LentStore Frames) → means (λ f. frames_plan f.map.now) s ≡ paged s.width s.grants.capacity s.layout.map.now s.grants.marks.now s.words.now
+paged_means s = refl
+
+-- only want of memory refuses such a store when it is opened again
+pub paged_reopens : (s : LentStore Frames) (u : Refusal Unmade (Runs Frames)) → StillMeans (λ f. frames_plan f.map.now) s (Err u) → u.cause ≡ NoMemory
+paged_reopens s u h = h.cause

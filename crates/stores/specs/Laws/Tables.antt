@@ -1,10 +1,15 @@
 -- A table: blocks whose words stand one block after another.
-use Rattle.std.specs.Prelude.{◌≡◌, ℕ, suc, ◌+◌, ◌-◌, ◌*◌, ◌/◌, ◌<◌, ◌≤◌, List, length, ◌≢◌}
-use Rattle.std.proofs.Common.{ap, ⊎_elim, arith, suc-mul, mul-le-mul_right, div-mul-le_self}
+use Rattle.std.specs.Prelude.{◌≡◌, ℕ, suc, ◌+◌, ◌-◌, ◌*◌, ◌/◌, ◌<◌, ◌≤◌, List, length, Err, ◌≢◌}
+use Rattle.std.proofs.Common.{refl, ap, ⊎_elim, arith, suc-mul, mul-le-mul_right, div-mul-le_self}
 use Rattle.std.proofs.lemmas.Bool.{cases_lt, cases_eq}
 use Rattle.store.specs.Meaning.{Sound, limit}
+use Rattle.store.specs.declared.fault.Fault.{Fault}
+use Rattle.store.specs.declared.fault.Refused.{Refused}
+use Rattle.stores.specs.declared.lent.LentStore.{LentStore}
+use Rattle.stores.specs.declared.lent.Runs.{Runs}
 use Rattle.stores.specs.Table.{in_row, table, most_blocks}
 use Rattle.stores.specs.Rows.{rows_plan, Fits}
+use Rattle.stores.specs.Opened.{means, StillMeans}
 use Rattle.stores.specs.Laws.Laid.{Lies, laid_sound}
 use Rattle.stores.specs.Laws.Plans.{Lawful}
 
@@ -56,3 +61,11 @@ rows_lawful = record {
   lies = λ f. fits_lies f;
   spared = λ s b. let h = b.no_width s.wide in absurd (omega (arith, s.narrow));
 }
+
+-- what a store means whose words stand in rows
+pub table_means : {L : Type 0} (s : LentStore L) → means (λ l. rows_plan) s ≡ table s.width s.grants.capacity s.grants.marks.now s.words.now
+table_means s = refl
+
+-- such a store is never refused when it is opened again
+pub table_reopens : {L : Type 0} (s : LentStore L) (u : Refused Fault (Runs L)) → StillMeans (λ l. rows_plan) s (Err u) → ⊥
+table_reopens s u h = h.cause

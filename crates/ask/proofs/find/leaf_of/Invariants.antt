@@ -1,13 +1,16 @@
-use Rattle.std.proofs.Common.{◌≡◌, ◌-◌}
+use Rattle.std.proofs.Common.{◌≡◌}
 use Rattle.store.specs.Calls.{Left}
-use Rattle.tree.specs.Tree.{index_unit}
-use Rattle.held.specs.Held.{kind, Sits}
+use Rattle.held.specs.Held.{kind}
+use Rattle.held.specs.Roots.{Rooted}
 use Rattle.ask.proofs.Leaves.{Below}
 use Rattle.ask.proofs.find.leaf_of.Given as goal
 
-abbrev pub invariant-loop-depth : goal.invariant-loop-depth
-invariant-loop-depth g l =
+abbrev pub invariant-loop-node : goal.invariant-loop-node
+invariant-loop-node g l =
     let m = g.S.Store.meaning l.initial.store in
     let κ = kind g.K.Key.width g.K.Ord.cmp g.K.Key.packed g.K.Key.unpacked in
     g.S.Store.ready l.initial.store →
-    Left (Sits κ index_unit m l.level l.root → (g.S.Store.meaning l.store ≡ m) × Below κ m l.level l.root l.key (l.level - l.depth) l.block) (g.S.Store.ready l.store)
+    Left (Rooted κ l.fn.root m → (g.S.Store.meaning l.store ≡ m) × Below κ m l.fn.root l.key l.node) (g.S.Store.ready l.store)
+
+abbrev pub decreases-loop-node : goal.decreases-loop-node
+decreases-loop-node g l = l.node.level

@@ -9,7 +9,7 @@ invariant-loop-i g l =
     let m = g.S.Store.meaning l.initial.store in
     g.S.Store.ready l.initial.store → Left (Copyable l.from l.to l.len m → g.S.Store.meaning l.store ≡ run m l.from l.to l.to.at (l.to.at + l.i)) (g.S.Store.ready l.store)
 
-abbrev pub invariant-loop-i-else-to-from : goal.invariant-loop-i-else-to-from
-invariant-loop-i-else-to-from g l =
+abbrev pub invariant-loop-i-else-forward : goal.invariant-loop-i-else-forward
+invariant-loop-i-else-forward g l =
     let m = g.S.Store.meaning l.initial.store in
     g.S.Store.ready l.initial.store → Left (Copyable l.from l.to l.len m → g.S.Store.meaning l.store ≡ run m l.from l.to (l.to.at + l.i) (l.to.at + l.len)) (g.S.Store.ready l.store)

@@ -1,15 +1,8 @@
-use Rattle.std.proofs.Common.{refl}
 use Rattle.store.specs.Meaning.{with_at}
 use Rattle.copies.specs.Blocks.{Copyable, Pasted, Word, Edited}
-use Rattle.copies.proofs.Exits.{raised, kin_same, word_lost, set_work, work_on}
-use Rattle.copies.proofs.Copies.{from_word, to_word, word_copied}
+use Rattle.copies.proofs.Exits.{kin_same, set_work, work_on}
+use Rattle.copies.proofs.Copies.{to_word, word_copied}
 use Rattle.copies.proofs.copy.copy_word.Goals as goal
-
-pub returns-in_err-word : goal.returns-in_err-word
-returns-in_err-word g c =
-    rw (raised _ _ c.from_residual.ensures) (λ h.
-    let e = c.in_err-word.ensures.keeps h in
-    record { call = λ p. word_lost (from_word _ _ _ p) e.call e.deep; ready = e.ready })
 
 pub returns : goal.returns
 returns g c h =

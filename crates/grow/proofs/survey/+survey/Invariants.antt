@@ -1,4 +1,4 @@
 use Rattle.grow.proofs.survey.+survey.Given as goal
 
 abbrev pub decreases-survey : goal.decreases-survey
-decreases-survey g l = l.level
+decreases-survey g l = l.node.level

@@ -1,45 +1,13 @@
 use Rattle.std.proofs.Common.{◌+◌, ap, ◌∙◌, arith}
 use Rattle.store.specs.Meaning.{with_at}
 use Rattle.copies.specs.Blocks.{Word, Edited}
-use Rattle.copies.proofs.Exits.{raised, lost_later, kin_same, kin_edit, set_work, work_on}
+use Rattle.copies.proofs.Exits.{kin_edit, set_work, work_on}
 use Rattle.copies.proofs.Edits.{edit_then}
 use Rattle.nodes.specs.Places.{form}
 use Rattle.nodes.specs.Nodes.{Joinable, Joined}
-use Rattle.nodes.proofs.Rooms.{room_edit, room_place, rooms_same, countable, countable_same, carry_same}
+use Rattle.nodes.proofs.Rooms.{room_edit, room_place, rooms_same, countable, countable_same, carry_at}
 use Rattle.nodes.proofs.Lists.{append_holds}
 use Rattle.nodes.proofs.edit.append_all.Goals as goal
-
-pub returns-in_err-kept : goal.returns-in_err-kept
-returns-in_err-kept g c =
-    rw (raised _ _ c.from_residual.ensures) (λ h.
-    let e = c.in_err-kept.ensures.counts h in
-    record { call = λ p. e.call (countable g.K.Key.width _ _ (omega (arith, p.fits)) p.rooms.other); ready = e.ready })
-
-pub returns-in_err-more : goal.returns-in_err-more
-returns-in_err-more g c =
-    rw (raised _ _ c.from_residual-in_err-more.ensures) (λ h.
-    let a = c.in_ok-kept.ensures.counts h in
-    let e = c.in_err-more.ensures.counts a.ready in
-    record {
-      call = λ p.
-          let one = a.call (countable g.K.Key.width _ _ (omega (arith, p.fits)) p.rooms.other) in
-          lost_later (kin_same one.same) (e.call (countable_same g.K.Key.width _ _ _ one.same (omega (arith, p.fits)) p.rooms.one));
-      ready = e.ready;
-    })
-
-pub returns-in_err-copy_entries : goal.returns-in_err-copy_entries
-returns-in_err-copy_entries g c =
-    rw (raised _ _ c.from_residual-in_err-copy_entries.ensures) (λ h.
-    let a = c.in_ok-kept.ensures.counts h in
-    let b = c.in_ok-more.ensures.counts a.ready in
-    let e = c.in_err-copy_entries.ensures b.ready in
-    record {
-      call = λ p.
-          let one = a.call (countable g.K.Key.width _ _ (omega (arith, p.fits)) p.rooms.other) in
-          let two = b.call (countable_same g.K.Key.width _ _ _ one.same (omega (arith, p.fits)) p.rooms.one) in
-          lost_later (kin_same (two.same ∙ one.same)) (e.call (rooms_same _ _ _ _ _ (two.same ∙ one.same) p.rooms));
-      ready = e.ready;
-    })
 
 pub returns : goal.returns
 returns g c h =
@@ -58,7 +26,7 @@ returns g c h =
     let two = λ (p : Joinable φ from to m). b.call (countable_same k _ _ _ (one p).same (omega (arith, p.fits)) p.rooms.one) in
     let same = λ (p : Joinable φ from to m). (two p).same ∙ (one p).same in
     let more_is = λ (p : Joinable φ from to m). (two p).value ∙ ap (λ z. z.words from 1) (one p).same in
-    let three = λ (p : Joinable φ from to m). carry_same φ from 0 to kept more _ _ _ (same p) (d.call (rooms_same _ _ _ _ _ (same p) p.rooms)) in
+    let three = λ (p : Joinable φ from to m). carry_at φ from 0 to kept more _ _ _ (same p) (d.call (rooms_same _ _ _ _ _ (same p) p.rooms)) (omega arith) (omega arith) (omega arith) in
     record {
       call = work_on (Joinable φ from to) (Word to 1) (Joined φ from to) (Edited to (λ β. with_at β 1 (kept + more))) m _ _ _
           (λ p. room_place φ _ _ _ (omega arith) (room_edit _ _ _ _ _ _ (three p) p.rooms.other))

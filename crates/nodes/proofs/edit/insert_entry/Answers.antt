@@ -1,31 +1,13 @@
 use Rattle.std.proofs.Common.{◌+◌, ◌-◌, arith}
 use Rattle.store.specs.Meaning.{with_at}
 use Rattle.copies.specs.Blocks.{Word, Edited}
-use Rattle.copies.proofs.Exits.{raised, lost_later, kin_same, kin_edit, set_work, work_on}
+use Rattle.copies.proofs.Exits.{raised, lost_later, kin_edit, set_work, work_on}
 use Rattle.copies.proofs.Edits.{edit_then}
 use Rattle.nodes.specs.Places.{form}
 use Rattle.nodes.specs.Nodes.{Open, Changed, entry_of, insert_at}
-use Rattle.nodes.proofs.Rooms.{room_edit, room_place, rooms_twice, countable, carry_same}
+use Rattle.nodes.proofs.Rooms.{room_edit, room_place, rooms_twice, countable, carry_same, carry_at}
 use Rattle.nodes.proofs.Lists.{insert_holds}
 use Rattle.nodes.proofs.edit.insert_entry.Goals as goal
-
-pub returns-in_err-n : goal.returns-in_err-n
-returns-in_err-n g c =
-    rw (raised _ _ c.from_residual.ensures) (λ h.
-    let e = c.in_err-n.ensures.counts h in
-    record { call = λ p. e.call (countable g.K.Key.width _ _ (omega (arith, p.free)) p.room); ready = e.ready })
-
-pub returns-in_err-copy_entries : goal.returns-in_err-copy_entries
-returns-in_err-copy_entries g c =
-    rw (raised _ _ c.from_residual-in_err-copy_entries.ensures) (λ h.
-    let r = c.in_ok-n.ensures.counts h in
-    let e = c.in_err-copy_entries.ensures r.ready in
-    record {
-      call = λ p.
-          let same = (r.call (countable g.K.Key.width _ _ (omega (arith, p.free)) p.room)).same in
-          lost_later (kin_same same) (e.call (rooms_twice _ _ _ _ same p.room));
-      ready = e.ready;
-    })
 
 pub returns-in_err-put_entry : goal.returns-in_err-put_entry
 returns-in_err-put_entry g c =
@@ -55,7 +37,7 @@ returns g c h =
     let w = c.in_ok-put_entry.ensures a.ready in
     let e = c.set.ensures.keeps w.ready in
     let read = λ (p : Open φ b i m). r.call (countable k _ _ (omega (arith, p.free)) p.room) in
-    let one = λ (p : Open φ b i m). carry_same φ b i b (i + 1) (n - i) _ _ _ (read p).same (a.call (rooms_twice _ _ _ _ (read p).same p.room)) in
+    let one = λ (p : Open φ b i m). carry_at φ b i b (i + 1) (n - i) _ _ _ (read p).same (a.call (rooms_twice _ _ _ _ (read p).same p.room)) (omega arith) (omega arith) (omega arith) in
     let two = λ (p : Open φ b i m). edit_then _ _ _ _ _ _ (one p) (w.call (room_edit _ _ _ _ _ _ (one p) p.room)) in
     record {
       call = work_on (Open φ b i) (Word b 1) (Changed φ b (insert_at i x)) (Edited b (λ β. with_at β 1 (n + 1))) m _ _ _

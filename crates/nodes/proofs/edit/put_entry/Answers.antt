@@ -1,27 +1,12 @@
 use Rattle.std.proofs.Common.{arith}
 use Rattle.store.specs.Meaning.{with_at}
 use Rattle.copies.specs.Blocks.{Word, Edited}
-use Rattle.copies.proofs.Exits.{raised, lost_later, kin_edit, word_lost, set_edit, set_work, work_on}
+use Rattle.copies.proofs.Exits.{kin_edit, set_edit, set_work, work_on}
 use Rattle.nodes.specs.Places.{form}
 use Rattle.nodes.specs.Nodes.{Room, entry_of, placed}
 use Rattle.nodes.proofs.Rooms.{room_edit, room_place}
 use Rattle.nodes.proofs.Puts.{placed_two, placed_all}
 use Rattle.nodes.proofs.edit.put_entry.Goals as goal
-
-pub returns-in_err-set : goal.returns-in_err-set
-returns-in_err-set g c =
-    rw (raised _ _ c.from_residual.ensures) (λ h.
-    let φ = form g.K.Key.width in
-    let e = c.in_err-set.ensures.keeps h in
-    record { call = λ p. word_lost (room_place φ _ _ _ (omega arith) p) e.call e.deep; ready = e.ready })
-
-pub returns-in_err-put_key : goal.returns-in_err-put_key
-returns-in_err-put_key g c =
-    rw (raised _ _ c.from_residual-in_err-put_key.ensures) (λ h.
-    let a = c.in_ok-set.ensures.keeps h in
-    let e = c.in_err-put_key.ensures a.ready in
-    let one = set_edit _ _ _ _ _ a.call in
-    record { call = λ p. lost_later (kin_edit _ _ _ _ one) (e.call (room_edit _ _ _ _ _ _ one p)); ready = e.ready })
 
 pub returns : goal.returns
 returns g c h =

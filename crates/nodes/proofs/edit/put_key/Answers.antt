@@ -1,5 +1,4 @@
-use Rattle.std.proofs.Common.{◌≡◌, ◌∙◌, arith}
-use Rattle.copies.specs.Blocks.{edit, filled}
+use Rattle.std.proofs.Common.{arith}
 use Rattle.copies.proofs.Exits.{raised, lost_later, kin_edit, word_lost}
 use Rattle.copies.proofs.Edits.{filled_none, filled_more}
 use Rattle.nodes.specs.Places.{form}
@@ -26,13 +25,3 @@ returns-in_err-set g c =
       call = λ p. lost_later (kin_edit _ _ _ _ (i.call p)) (word_lost (room_place φ _ _ _ (omega arith) (room_edit _ _ _ _ _ _ (i.call p) p)) e.call e.deep);
       ready = e.ready;
     })
-
-pub returns : goal.returns
-returns g c h =
-    let i = c.loop-j.invariant h in
-    let all : c.loop-j.j ≡ g.K.Key.width = omega arith in
-    let m = g.S.Store.meaning c.args.store.now in
-    record {
-      call = λ p. i.call p ∙ (λ z. edit m c.args.block (filled (c.key_at-at.ensures z) (g.K.Key.packed c.args.key.now) (all z)));
-      ready = i.ready;
-    }

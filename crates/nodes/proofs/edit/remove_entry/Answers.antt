@@ -1,36 +1,13 @@
 use Rattle.std.proofs.Common.{◌+◌, ◌-◌, arith}
 use Rattle.store.specs.Meaning.{with_at}
 use Rattle.copies.specs.Blocks.{Word, Edited}
-use Rattle.copies.proofs.Exits.{raised, lost_later, kin_same, kin_edit, set_work, work_on}
+use Rattle.copies.proofs.Exits.{kin_edit, set_work, work_on}
 use Rattle.copies.proofs.Edits.{edit_then}
 use Rattle.nodes.specs.Places.{form}
 use Rattle.nodes.specs.Nodes.{Has, Changed, remove_at}
-use Rattle.nodes.proofs.Rooms.{room_edit, room_place, rooms_twice, countable, carry_same}
+use Rattle.nodes.proofs.Rooms.{room_edit, room_place, rooms_twice, countable, carry_at}
 use Rattle.nodes.proofs.Lists.{remove_holds}
 use Rattle.nodes.proofs.edit.remove_entry.Goals as goal
-
-pub returns-in_err-n : goal.returns-in_err-n
-returns-in_err-n g c =
-    rw (raised _ _ c.from_residual.ensures) (λ h.
-    let e = c.in_err-n.ensures.counts h in
-    record { call = λ p. e.call (countable g.K.Key.width _ _ p.few p.room); ready = e.ready })
-
-pub returns-then-i-n : goal.returns-then-i-n
-returns-then-i-n g c h =
-    let r = c.in_ok-n.ensures.counts h in
-    record { call = λ p. absurd (omega (arith, p.has, (r.call (countable g.K.Key.width _ _ p.few p.room)).value)); ready = r.ready }
-
-pub returns-in_err-copy_entries : goal.returns-in_err-copy_entries
-returns-in_err-copy_entries g c =
-    rw (raised _ _ c.from_residual-in_err-copy_entries.ensures) (λ h.
-    let r = c.in_ok-n.ensures.counts h in
-    let e = c.in_err-copy_entries.ensures r.ready in
-    record {
-      call = λ p.
-          let same = (r.call (countable g.K.Key.width _ _ p.few p.room)).same in
-          lost_later (kin_same same) (e.call (rooms_twice _ _ _ _ same p.room));
-      ready = e.ready;
-    })
 
 pub returns : goal.returns
 returns g c h =
@@ -44,7 +21,7 @@ returns g c h =
     let a = c.in_ok-copy_entries.ensures r.ready in
     let e = c.set.ensures.keeps a.ready in
     let read = λ (p : Has φ b i m). r.call (countable k _ _ p.few p.room) in
-    let one = λ (p : Has φ b i m). carry_same φ b (i + 1) b i (n - (i + 1)) _ _ _ (read p).same (a.call (rooms_twice _ _ _ _ (read p).same p.room)) in
+    let one = λ (p : Has φ b i m). carry_at φ b (i + 1) b i (n - (i + 1)) _ _ _ (read p).same (a.call (rooms_twice _ _ _ _ (read p).same p.room)) (omega arith) (omega arith) (omega arith) in
     record {
       call = work_on (Has φ b i) (Word b 1) (Changed φ b (remove_at i)) (Edited b (λ β. with_at β 1 (n - 1))) m _ _ _
           (λ p. room_place φ _ _ _ (omega arith) (room_edit _ _ _ _ _ _ (one p) p.room))

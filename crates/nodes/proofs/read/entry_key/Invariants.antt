@@ -8,4 +8,4 @@ abbrev pub invariant-loop-j : goal.invariant-loop-j
 invariant-loop-j g l =
     let m = g.S.Store.meaning l.initial.store in
     let φ = form g.K.Key.width in
-    (length l.words ≡ 4) × (g.S.Store.ready l.initial.store → Left (Room φ l.block m → (g.S.Store.meaning l.store ≡ m) × ((x : ℕ) → x < l.j → get_or l.words x 0 ≡ m.words l.block (key_at φ l.i + x))) (g.S.Store.ready l.store))
+    (length l.key ≡ g.K.Key.width) × (g.S.Store.ready l.initial.store → Left (Room φ l.block m → (g.S.Store.meaning l.store ≡ m) × ((x : ℕ) → x < l.j → get_or l.key x 0 ≡ m.words l.block (key_at φ l.i + x))) (g.S.Store.ready l.store))

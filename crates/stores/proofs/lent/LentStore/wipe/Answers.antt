@@ -1,5 +1,4 @@
-use Rattle.std.proofs.Common.{arith}
-use Rattle.stores.proofs.LentCalls.{wipe_none, wipe_more, wipe_all}
+use Rattle.stores.proofs.LentCalls.{wipe_none, wipe_more}
 use Rattle.stores.proofs.lent.LentStore.wipe.Goals as goal
 
 pub loop-place-init : goal.loop-place-init
@@ -7,6 +6,3 @@ loop-place-init g c = wipe_none g.L.Layout.plan c.args.self.now c.args.slot
 
 pub loop-place-preserved : goal.loop-place-preserved
 loop-place-preserved g c = wipe_more g.L.Layout.plan c.args.slot c.loop-place.place c.loop-place.invariant c.place_of-at.ensures c.put.ensures
-
-pub returns : goal.returns
-returns g c = wipe_all g.L.Layout.plan c.args.slot c.loop-place.place c.loop-place.invariant (omega arith)

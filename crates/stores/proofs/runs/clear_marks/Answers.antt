@@ -1,10 +1,10 @@
 use Rattle.std.proofs.Common.{◌≤◌, length, ◌++◌, drop, replicate, sym, ap, ◌∙◌, arith, length-take}
 use Rattle.stores.specs.Laws.Clearing.{cleared_front, cleared_top}
-use Rattle.stores.proofs.runs.clear.Goals as goal
+use Rattle.stores.proofs.runs.clear_marks.Goals as goal
 
 pub returns : goal.returns
 returns c =
-    let run = c.args.run.now in
+    let run = c.args.marks.now in
     let end = c.min-end.result in
     let zeros = c.fill.ensures.after (λ y e. e) in
     let low : end ≤ length run = omega (arith, c.min-end.ensures) in
