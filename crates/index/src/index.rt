@@ -14,7 +14,8 @@ use store::blocks::{LARGEST_BLOCK, Store};
 use store::fault::{Fault, Refusal, Refused};
 
 // An open index. `header` is the header's block; `tree` has the root and the number of keys, within their bounds.
-// A store that said 'down' is remembered by its fault.
+// A store that said 'down' is remembered by its fault. Nodes are named by their blocks' numbers and not owned: a rule of the
+// project has the tree as words in blocks, a child being one of them.
 pub struct Index<K, S> {
     store: S,
     header: u32,

@@ -114,18 +114,16 @@ impl<'a> Session<'a> {
         }
     }
 
-    // Makes every call on a store.
-    pub(crate) fn make_all<S: Store>(&mut self, store: &mut S) -> Result<(), AllocError> {
+    // Makes those calls on a store that are wanted.
+    pub(crate) fn make_those<S: Store, F: Fn(&Call) -> bool>(
+        &mut self,
+        store: &mut S,
+        wanted: F,
+    ) -> Result<(), AllocError>
+        requires { F.IsAlwaysCallable wanted }
+    {
         for call in self.calls {
-            self.answer(store, *call)?;
-        }
-        Ok(())
-    }
-
-    // Makes only those calls on a store that read a word.
-    pub(crate) fn make_reads<S: Store>(&mut self, store: &mut S) -> Result<(), AllocError> {
-        for call in self.calls {
-            if let Call::Get(..) = call {
+            if wanted(call) {
                 self.answer(store, *call)?;
             }
         }

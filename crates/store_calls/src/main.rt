@@ -113,7 +113,8 @@ fn cached<F: FnOnce(LineTable) -> Result<String, AllocError>>(
     }
 }
 
-// What the layers answer over a fresh table store. It and the next differ in the store's type and in what is lent to it.
+// What the layers answer over a fresh table store. It and the next are two functions: one over any layout was tried, and
+// proves, but not its call with a lent map, where the borrow checker's part finds two types that differ.
 fn over_table(heap: Global, layers: Layers, calls: &[Call]) -> Result<String, AllocError> {
     let mut words = vec![in heap; 7u64; BLOCKS * WIDTH]?;
     let mut marks = vec![in heap; 1u8; BLOCKS + 3]?;

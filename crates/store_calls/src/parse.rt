@@ -2,7 +2,7 @@
 use crate::call::Call;
 use std::alloc::{AllocError, Global};
 
-// A number among the words, 0 where there is none.
+// A number among the words, 0 where there is none: the program takes any text, and has no answer for a bad line.
 fn number(word: Option<&str>) -> u64 {
     word.and_then(|text| text.parse().ok()).unwrap_or(0)
 }

@@ -14,7 +14,7 @@ pub(crate) fn answers<P: Store, F: FnOnce(P, &mut Session) -> Result<(), AllocEr
     requires { F.IsAlwaysCallable take_apart }
 {
     let mut session = Session::new(heap, calls);
-    let made = session.make_all(&mut pile);
+    let made = session.make_those(&mut pile, |_| true);
     take_apart(pile, &mut session)?;
     made?;
     Ok(session.end())
@@ -29,6 +29,6 @@ pub(crate) fn read_below<S: Store>(
         Ok(store) => store,
         Err(Refused { cause: _, back }) => back,
     };
-    let read = session.make_reads(&mut store);
+    let read = session.make_those(&mut store, |call| matches!(call, Call::Get(..)));
     (store, read)
 }
