@@ -74,7 +74,7 @@ pub fn insert_entry<K: Key, S: Store>(
     }
     copy_entries::<K, S>(store, block, i, block, i + 1, n - i)?;
     put_entry(store, block, i, entry)?;
-    store.set(block, COUNT_AT, n as u64 + 1)
+    store.set(block, COUNT_AT, u64::from(n) + 1)
 }
 
 // Takes the entry at place i out.
@@ -86,7 +86,7 @@ pub fn remove_entry<K: Key, S: Store>(store: &mut S, block: u32, i: u32) -> Resu
         return Err(damaged(block));
     }
     copy_entries::<K, S>(store, block, i + 1, block, i, n - (i + 1))?;
-    store.set(block, COUNT_AT, n as u64 - 1)
+    store.set(block, COUNT_AT, u64::from(n) - 1)
 }
 
 // Puts all entries of block `from` after those of `to`.
@@ -99,7 +99,7 @@ pub fn append_all<K: Key, S: Store>(store: &mut S, from: u32, to: u32) -> Result
         return Err(damaged(to));
     }
     copy_entries::<K, S>(store, from, 0, to, kept, more)?;
-    store.set(to, COUNT_AT, kept as u64 + more as u64)
+    store.set(to, COUNT_AT, u64::from(kept) + u64::from(more))
 }
 
 // Moves the entries from place m on to block `to`, which becomes a node of the same level.
@@ -113,6 +113,6 @@ pub fn move_tail<K: Key, S: Store>(store: &mut S, from: u32, to: u32, m: u32) ->
     }
     copy_entries::<K, S>(store, from, m, to, 0, n - m)?;
     store.set(to, LEVEL_AT, level)?;
-    store.set(to, COUNT_AT, (n - m) as u64)?;
-    store.set(from, COUNT_AT, m as u64)
+    store.set(to, COUNT_AT, u64::from(n - m))?;
+    store.set(from, COUNT_AT, u64::from(m))
 }

@@ -1,7 +1,7 @@
 use Rattle.std.proofs.Common.{◌+◌, ap, ◌∙◌, arith}
 use Rattle.store.specs.Meaning.{with_at}
 use Rattle.copies.specs.Blocks.{Word, Edited}
-use Rattle.copies.proofs.Exits.{kin_edit, set_work, work_on}
+use Rattle.copies.proofs.Exits.{kin_edit, set_work_at, work_on}
 use Rattle.copies.proofs.Edits.{edit_then}
 use Rattle.nodes.specs.Places.{form}
 use Rattle.nodes.specs.Nodes.{Joinable, Joined}
@@ -32,6 +32,6 @@ returns g c h =
           (λ p. room_place φ _ _ _ (omega arith) (room_edit _ _ _ _ _ _ (three p) p.rooms.other))
           (λ p. kin_edit _ _ _ _ (three p))
           (λ _ p y. append_holds φ _ _ _ _ _ _ (one p).value (more_is p) (omega (arith, p.fits, (one p).value, more_is p)) (edit_then _ _ _ _ _ _ (three p) y))
-          (set_work _ _ _ _ _ _ e.call e.deep);
+          (set_work_at _ _ _ _ _ _ e.call e.deep (omega arith) (omega arith) (omega arith));
       ready = e.ready;
     }

@@ -1,7 +1,7 @@
 use Rattle.std.proofs.Common.{◌+◌, ◌-◌, arith}
 use Rattle.store.specs.Meaning.{with_at}
 use Rattle.copies.specs.Blocks.{Word, Edited}
-use Rattle.copies.proofs.Exits.{raised, lost_later, kin_edit, set_work, work_on}
+use Rattle.copies.proofs.Exits.{raised, lost_later, kin_edit, set_work_at, work_on}
 use Rattle.copies.proofs.Edits.{edit_then}
 use Rattle.nodes.specs.Places.{form}
 use Rattle.nodes.specs.Nodes.{Open, Changed, entry_of, insert_at}
@@ -44,6 +44,6 @@ returns g c h =
           (λ p. room_place φ _ _ _ (omega arith) (room_edit _ _ _ _ _ _ (two p) p.room))
           (λ p. kin_edit _ _ _ _ (two p))
           (λ _ p y. insert_holds φ _ _ _ _ _ x (read p).value (g.met.K.Key.packing.long c.args.entry.now.key) (omega (arith, p.upto, (read p).value)) (omega (arith, p.free, (read p).value)) (edit_then _ _ _ _ _ _ (two p) y))
-          (set_work _ _ _ _ _ _ e.call e.deep);
+          (set_work_at _ _ _ _ _ _ e.call e.deep (omega arith) (omega arith) (omega arith));
       ready = e.ready;
     }

@@ -1,7 +1,7 @@
 use Rattle.std.proofs.Common.{◌-◌, ap, ◌∙◌, arith}
 use Rattle.store.specs.Meaning.{with_at}
 use Rattle.copies.specs.Blocks.{Word, Edited}
-use Rattle.copies.proofs.Exits.{raised, lost_later, kin_edit, word_lost, set_edit, set_at, fails_at, set_work_at, work_on}
+use Rattle.copies.proofs.Exits.{raised, lost_later, kin_edit, word_lost, set_at, fails_at, set_work_at, work_on}
 use Rattle.copies.proofs.Edits.{edit_then}
 use Rattle.nodes.specs.Places.{form}
 use Rattle.nodes.specs.Nodes.{Partable, Parted}
@@ -61,7 +61,7 @@ returns g c h =
     let same = λ (p : Partable φ from to at m). (read p).same ∙ a.call.same in
     let one = λ (p : Partable φ from to at m). carry_same φ from at to 0 (n - at) _ _ _ (same p) (d.call (rooms_same _ _ _ _ _ (same p) p.rooms)) in
     let two = λ (p : Partable φ from to at m). edit_then _ _ _ _ _ _ (one p) (set_at _ _ to 0 c.in_ok-level.level s.call (omega arith) (omega arith) (omega arith)) in
-    let three = λ (p : Partable φ from to at m). edit_then _ _ _ _ _ _ (two p) (set_edit _ _ _ _ _ s'.call) in
+    let three = λ (p : Partable φ from to at m). edit_then _ _ _ _ _ _ (two p) (set_at _ _ to 1 (n - at) s'.call (omega arith) (omega arith) (omega arith)) in
     record {
       call = work_on (Partable φ from to at) (Word from 1) (Parted φ from to at) (Edited from (λ β. with_at β 1 at)) m _ _ _
           (λ p. room_place φ _ _ _ (omega arith) (room_edit _ _ _ _ _ _ (three p) p.rooms.one))

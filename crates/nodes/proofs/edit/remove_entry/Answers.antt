@@ -1,7 +1,7 @@
 use Rattle.std.proofs.Common.{◌+◌, ◌-◌, arith}
 use Rattle.store.specs.Meaning.{with_at}
 use Rattle.copies.specs.Blocks.{Word, Edited}
-use Rattle.copies.proofs.Exits.{kin_edit, set_work, work_on}
+use Rattle.copies.proofs.Exits.{kin_edit, set_work_at, work_on}
 use Rattle.copies.proofs.Edits.{edit_then}
 use Rattle.nodes.specs.Places.{form}
 use Rattle.nodes.specs.Nodes.{Has, Changed, remove_at}
@@ -27,6 +27,6 @@ returns g c h =
           (λ p. room_place φ _ _ _ (omega arith) (room_edit _ _ _ _ _ _ (one p) p.room))
           (λ p. kin_edit _ _ _ _ (one p))
           (λ _ p y. remove_holds φ _ _ _ _ _ (read p).value (omega (arith, p.has, (read p).value)) (omega (arith, p.few, (read p).value)) (edit_then _ _ _ _ _ _ (one p) y))
-          (set_work _ _ _ _ _ _ e.call e.deep);
+          (set_work_at _ _ _ _ _ _ e.call e.deep (omega arith) (omega arith) (omega arith));
       ready = e.ready;
     }
