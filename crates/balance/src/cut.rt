@@ -15,7 +15,8 @@ use store::fault::Fault;
 // Far above any weight: sums of 80 weights stay within a word.
 const HEAVIEST: u64 = 1 << 40;
 
-// What entry i adds to its node's weight: 1 in a leaf.
+// What entry i adds to its node's weight: 1 in a leaf. Places and counts here are bounded one by one, with no type of their
+// own: each is the next of a count just read.
 pub fn weigh<K: Key, S: Store>(store: &mut S, node: Node, i: u32) -> Result<u64, Fault>
     requires within { i < 80 }
     ensures bound { IfOk result (λ w. w ≤ 2 ^ 40) }

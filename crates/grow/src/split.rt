@@ -51,7 +51,7 @@ pub fn raise<K: Key, S: Store>(store: &mut S, root: Node, keys: u64) -> Result<N
         return Err(damaged(top));
     }
     let level = root.level + 1;
-    store.set(top, LEVEL_AT, level as u64)?;
+    store.set(top, LEVEL_AT, u64::from(level))?;
     let entry = Entry::of_child(keys, low, root.block);
     insert_entry(store, top, 0, &entry)?;
     let way = Way {

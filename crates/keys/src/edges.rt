@@ -3,7 +3,6 @@ use crate::document::DocumentName;
 use crate::key::Key;
 use crate::search::{below, up_to};
 use crate::stamp::DueStamp;
-use std::cmp::Ordering;
 use std::process::Abort;
 
 // The minute packs into the word, and the word into the minute.
@@ -60,17 +59,10 @@ fn bytes(rt: HostRuntime) {
         assert_eq!(rt; least.word(i), 0);
         assert_eq!(rt; most.word(i), u64::MAX);
     }
-    assert_eq!(rt;
-        DocumentName::from_words(&[0, 0, 0, 0]).cmp(&least),
-        Ordering::Equal
-    );
-    assert_eq!(rt;
-        DocumentName::from_words(&[u64::MAX; 4]).cmp(&most),
-        Ordering::Equal
-    );
-    assert_eq!(rt; least.cmp(&most), Ordering::Less);
-    assert_eq!(rt;
-        DocumentName::from_words(&[0, 0, 0, 255]).cmp(&DocumentName::from_words(&[0, 0, 0, 256]),),
-        Ordering::Less
+    assert_eq!(rt; DocumentName::from_words(&[0, 0, 0, 0]), least);
+    assert_eq!(rt; DocumentName::from_words(&[u64::MAX; 4]), most);
+    assert!(rt; least < most);
+    assert!(rt;
+        DocumentName::from_words(&[0, 0, 0, 255]) < DocumentName::from_words(&[0, 0, 0, 256])
     );
 }

@@ -12,7 +12,7 @@ use store::blocks::Store;
 use store::fault::Fault;
 
 // Copies `n` entries, those from place `i` on in block `from`, to the places from `j` on in `to`.
-// block and place are two parameters, as in every reading and verb of a node
+// block and place are two parameters and no `Spot`: a place counts entries, and an entry is three spots, made here
 pub fn copy_entries<K: Key, S: Store>(
     store: &mut S,
     from: u32,

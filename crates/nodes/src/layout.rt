@@ -48,7 +48,8 @@ pub fn child_at<K: Key>(i: u32) -> u32
 }
 
 // A stored word as a block number: 0, which no store grants, where it is none.
-// no Option: a way that leads nowhere is refused by the store itself where it is followed, with no case of its own
+// no Option: a way that leads nowhere is refused by the store itself where it is followed, so the calls that follow one
+// need no case of their own
 #[tactic(auto, unfolding(store::specs::Meaning::limit))]
 pub fn block_of(word: u64) -> u32
     ensures { result ≡ block_number word }

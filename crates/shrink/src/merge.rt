@@ -21,7 +21,7 @@ pub struct Siblings<K> {
     pub weight: u64,
 }
 
-// The child at a place with its left neighbour, or with its right one if there is no left.
+// By any place, as `mend` below. The child at a place with its left neighbour, or with its right one if there is no left.
 fn neighbours<K: Key, S: Store>(
     store: &mut S,
     parent: u32,
