@@ -47,6 +47,7 @@ pub fn raise<K: Key, S: Store>(store: &mut S, root: Node, keys: u64) -> Result<N
 {
     let low: K = entry_key(store, root.block, 0)?;
     let top = store.take()?;
+    // tested here, in `lower` of deletion and in `lay_out` of the index: each blames another block and makes another value
     if !(1..=LARGEST_BLOCK).contains(&top) {
         return Err(damaged(top));
     }

@@ -42,6 +42,7 @@ fn lay_out<K: Key, S: Store>(store: &mut S) -> Result<(u32, Tree), Fault> {
     }
     let at = store.take()?;
     let block = store.take()?;
+    // the range as in `raise` of insertion, for a root that is made anew
     if !(1..=LARGEST_BLOCK).contains(&block) {
         return Err(damaged(block));
     }

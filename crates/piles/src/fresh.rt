@@ -30,6 +30,7 @@ where
                 back: back.into_runs(),
             }
         }
+        // by a match, as where a cache is closed: there the cause may be one deeper
         Err(Refused { cause, back }) => Ended {
             answer: Err(cause),
             back,

@@ -40,6 +40,7 @@ pub fn under_two<S: Store>(store: S, p: u64, q: u64, word: u64) -> Ended<Fault, 
 mod tests {
     use super::*;
 
+    // As in the tests of the table store: a maker for all would tell a proof less of what was lent than the fields do.
     fn runs<'a>(words: &'a mut [u64], marks: &'a mut [u8]) -> Runs<'a, Rows> {
         Runs {
             words,

@@ -53,6 +53,7 @@ fn lower<K: Key, S: Store>(store: &mut S, tree: Tree) -> Result<Tree, Fault> {
     }
     let block = child_block::<K, S>(store, root.block, 0)?;
     let level = root.level - 1;
+    // the range as in `raise` of insertion, which blames the block itself
     if !(1..=LARGEST_BLOCK).contains(&block) || keys > limit(level) {
         return Err(damaged(root.block));
     }

@@ -19,7 +19,8 @@ pub struct LentStore<'a, L> {
     layout: L,
 }
 
-// The lent runs, with the layout of the words.
+// The lent runs, with the layout of the words. The width is no part of them: they outlive a store, and may be opened with
+// another.
 #[derive(Drop)]
 pub struct Runs<'a, L> {
     pub words: &'a mut [u64],

@@ -51,6 +51,7 @@ mod tests {
     use std::test::Fail;
     use store::blocks::Store;
 
+    // Here and in the tests of piles: a maker for all would tell a proof less of what was lent than the fields do.
     fn runs<'a>(words: &'a mut [u64], marks: &'a mut [u8]) -> Runs<'a, Rows> {
         Runs {
             words,
