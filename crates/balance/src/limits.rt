@@ -1,5 +1,5 @@
 // The weights that nodes may have, by level.
-ghost use Rattle.std.specs.Prelude.{◌≡◌, ◌*◌, ◌^◌, ◌≤◌};
+ghost use Rattle.std.specs.Prelude.{◌≡◌, ◌*◌, ◌^◌};
 ghost use Rattle.balance.specs.Limits.{limit_of};
 
 // The highest level that a root may have.

@@ -1,7 +1,7 @@
 // What a table of lines does by itself.
 ghost use Rattle.std.specs.Prelude.{◌≡◌, ℕ, ◌<◌, ◌≤◌, vec_len, slice_index, slice_set};
 ghost use Rattle.store.specs.Layers.{raised};
-ghost use Rattle.cache.specs.Lines.{view, nth, table_views, ages, Made, Hits, Finds, Noted, has, set_view, free_view, goes};
+ghost use Rattle.cache.specs.Lines.{view, table_views, ages, Made, Hits, Finds, Noted, has, set_view, free_view, goes};
 
 use crate::line::{Line, LineTable};
 use std::alloc::Global;

@@ -1,6 +1,6 @@
 // Entries of a node written, put in, taken out, and moved between nodes.
 // block and place are two parameters, as a slice and an index are: a change of one place moves others of its block
-ghost use Rattle.std.specs.Prelude.{◌<◌, ◌≤◌};
+ghost use Rattle.std.specs.Prelude.{◌<◌};
 ghost use Rattle.store.specs.Calls.{Leaves};
 ghost use Rattle.copies.specs.Work.{Work};
 ghost use Rattle.copies.specs.Blocks.{Edited, filled};

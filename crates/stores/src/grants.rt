@@ -1,6 +1,6 @@
 // Which blocks of a store are granted. Block b has the slot b - 1, and a lent mark there, not 0 where b is granted.
 // A mark past the end of the run reads as 0.
-ghost use Rattle.std.specs.Prelude.{◌≡◌, ℕ, ◌<◌, ◌≤◌, ◌≢◌, slice_index};
+ghost use Rattle.std.specs.Prelude.{◌≡◌, ◌<◌, slice_index};
 ghost use Rattle.store.specs.Meaning.{count_to};
 ghost use Rattle.stores.specs.Table.{in_use};
 ghost use Rattle.stores.specs.Grants.{Adding, Removing, Clearing, Counting, FreeFrom, Free};

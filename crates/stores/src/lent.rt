@@ -1,6 +1,6 @@
 // A block store in two lent runs: the words of all blocks, and a mark for each block. A layout tells where the words of
 // each block stand. A word past the end of the run reads as 0.
-ghost use Rattle.std.specs.Prelude.{◌≡◌, ℕ, slice_index};
+ghost use Rattle.std.specs.Prelude.{◌≡◌, slice_index};
 ghost use Rattle.stores.specs.Opened.{means, Ready, FreshOr, ReopenedOr, StillMeans};
 ghost use Rattle.stores.specs.Steps.{Put, Wiping, Granting, OverOr, LocatedIn};
 ghost use Rattle.stores.specs.Laws.Plans.{plan_sound};
