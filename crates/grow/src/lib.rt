@@ -2,5 +2,6 @@
 #![tactic(auto)]
 
 pub mod insert;
+pub mod root;
 pub mod split;
 pub mod survey;

@@ -1,16 +1,17 @@
 // A child that grew: its entry corrected, and the child split where it weighs too much.
 ghost use Rattle.std.specs.Prelude.{◌≡◌, ◌+◌, ◌≤◌, IfOk};
 
+use crate::root::take_root;
 use balance::cut::{Halves, halve};
 use balance::limits::limit;
 use balance::way::Way;
 use keys::key::Key;
 use nodes::edit::{insert_entry, move_tail, replace_entry};
 use nodes::entry::Entry;
-use nodes::layout::{LEVEL_AT, damaged};
+use nodes::layout::LEVEL_AT;
 use nodes::node::Node;
 use nodes::read::{entry_key, entry_weight};
-use store::blocks::{LARGEST_BLOCK, Store};
+use store::blocks::Store;
 use store::fault::Fault;
 use tree::mark::Mark;
 
@@ -46,11 +47,7 @@ pub fn raise<K: Key, S: Store>(store: &mut S, root: Node, keys: u64) -> Result<N
     ensures level { IfOk result (λ top. top.level ≡ root.level + 1) }
 {
     let low: K = entry_key(store, root.block, 0)?;
-    let top = store.take()?;
-    // tested here, in `lower` of deletion and in `lay_out` of the index: each blames another block and makes another value
-    if !(1..=LARGEST_BLOCK).contains(&top) {
-        return Err(damaged(top));
-    }
+    let top = take_root(store)?;
     let level = root.level + 1;
     store.set(top, LEVEL_AT, u64::from(level))?;
     let entry = Entry::of_child(keys, low, root.block);

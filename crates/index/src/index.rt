@@ -3,14 +3,15 @@ use ask::find::{find, floor};
 use balance::marks::Marks;
 use balance::update::{Tree, Updated, refuse};
 use grow::insert::insert;
+use grow::root::take_root;
 use keys::key::Key;
 use nodes::header::{Header, put_header};
-use nodes::layout::{block_width, damaged};
+use nodes::layout::block_width;
 use nodes::node::Node;
 use plain::pair::Pair;
 use shrink::delete::delete;
 use std::marker::PhantomData;
-use store::blocks::{LARGEST_BLOCK, Store};
+use store::blocks::Store;
 use store::fault::{Fault, Refusal, Refused};
 
 // An open index. `header` is the header's block; `tree` has the root and the number of keys, within their bounds.
@@ -41,12 +42,10 @@ fn lay_out<K: Key, S: Store>(store: &mut S) -> Result<(u32, Tree), Fault> {
         return Err(refuse(Refusal::NoRoom));
     }
     let at = store.take()?;
-    let block = store.take()?;
-    // the range as in `raise` of insertion, for a root that is made anew
-    if !(1..=LARGEST_BLOCK).contains(&block) {
-        return Err(damaged(block));
-    }
-    let root = Node { block, level: 0 };
+    let root = Node {
+        block: take_root(store)?,
+        level: 0,
+    };
     let header = Header { root, keys: 0 };
     put_header::<K, S>(store, at, &header)?;
     Ok((at, Tree { header }))

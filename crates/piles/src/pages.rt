@@ -21,6 +21,7 @@ pub fn cached_one<S: Store>(store: S, table: LineTable, word: u64) -> Ended<Faul
     ensures { S.ready store → Unused table → Left (Use (cached_shape (S.meaning store).shape) word (S.meaning store) result.answer (S.meaning result.back)) (S.ready result.back) }
 {
     let Ended { answer, back } = use_one(Cache::new(store, table), word);
+    // by a match, as in `through_cache`, where the cause is one deeper
     match back.close() {
         Ok(back) => Ended { answer, back },
         Err(Refused { cause, back }) => Ended {

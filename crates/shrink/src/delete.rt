@@ -53,7 +53,7 @@ fn lower<K: Key, S: Store>(store: &mut S, tree: Tree) -> Result<Tree, Fault> {
     }
     let block = child_block::<K, S>(store, root.block, 0)?;
     let level = root.level - 1;
-    // the range as in `raise` of insertion, which blames the block itself
+    // not by `take_root` of insertion: no block is taken here, and the root before is to blame
     if !(1..=LARGEST_BLOCK).contains(&block) || keys > limit(level) {
         return Err(damaged(root.block));
     }
