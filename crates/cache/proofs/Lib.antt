@@ -1,4 +1,5 @@
 pub mod TableLines
+pub mod Turns
 pub mod Parts
 pub mod Exits
 pub mod Overs

@@ -1,4 +1,5 @@
 pub mod Lines
+pub mod Lent
 pub mod Cache
 pub mod Steps
 pub mod Laws

@@ -1,5 +1,5 @@
 -- What a table of cache lines holds and answers.
-use Rattle.std.specs.Prelude.{◌≡◌, ℕ, ◌<◌, ◌≤◌, Bool, true, false, not, ◌&&◌, List, [], map, length, Some, None, Ok, Err, vec_items, vec_len, Option, Result, ◌==◌, ◌≢◌, nat_lt, slice_index_or, slice_set}
+use Rattle.std.specs.Prelude.{◌≡◌, ℕ, ◌+◌, ◌-◌, ◌^◌, ◌<◌, ◌≤◌, min, Bool, true, false, not, ◌&&◌, List, [], map, length, Some, None, Ok, Err, vec_items, vec_len, Option, Result, ◌==◌, ◌≢◌, nat_lt, slice_index, slice_index_or, slice_set}
 use Rattle.store.specs.declared.fault.Fault.{Fault}
 use Rattle.store.specs.declared.fault.Refusal.TheVariants.{Down, Misfit}
 use Rattle.store.specs.Faults.{own_fault}
@@ -34,9 +34,21 @@ views ls = map view ls
 abbrev pub table_views : LineTable → List View
 table_views t = views (vec_items t.lines)
 
--- when each line was last used
+-- when each of some lines was last used
+abbrev pub ages_of : List Line → List ℕ
+ages_of ls = map (λ l. l.used) ls
+
+-- when each line of a table was last used
 abbrev pub ages : LineTable → List ℕ
-ages t = map (λ l. l.used) (vec_items t.lines)
+ages t = ages_of (vec_items t.lines)
+
+-- one use later; the largest clock stays
+abbrev pub later : ℕ → ℕ
+later n = min (n + 1) (2 ^ 64 - 1)
+
+-- no line was used later than the clock says
+abbrev pub Timed : LineTable → Type 0
+Timed t = (k : ℕ) → slice_index (ages t) k ≤ t.clock
 
 -- no line holds a block
 abbrev pub Clear : List View → Type 0
@@ -45,6 +57,7 @@ Clear vs = (i : ℕ) → (nth vs i).block ≡ 0
 -- a table that no store was put under yet
 pub record Unused (t : LineTable) : Type 0 where
   pub clear : Clear (table_views t)
+  pub timed : Timed t
   pub up : t.lost ≡ false
 
 -- a table of n unused lines

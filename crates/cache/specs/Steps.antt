@@ -1,5 +1,5 @@
 -- What the steps of a cache answer, and what they leave.
-use Rattle.std.specs.Prelude.{◌≡◌, ℕ, ◌<◌, ◌≤◌, Bool, true, false, cond, List, length, Ok, Err, Result, ◌≢◌, slice_index}
+use Rattle.std.specs.Prelude.{◌≡◌, ℕ, ◌<◌, ◌≤◌, Bool, true, false, cond, List, length, Ok, Err, Result, ◌≢◌, slice_index, slice_set}
 use Rattle.store.specs.declared.fault.Fault.{Fault}
 use Rattle.store.specs.declared.fault.Refusal.TheVariants.{Down}
 use Rattle.store.specs.Meaning.{Meaning, Fell, count, with_block}
@@ -8,7 +8,7 @@ use Rattle.store.specs.Calls.{WordFails, Deep, Told, Left}
 use Rattle.store.specs.declared.fault.Refused.{Refused}
 use Rattle.cache.specs.declared.cached.Cache.{Cache}
 use Rattle.cache.specs.declared.line.LineTable.{LineTable}
-use Rattle.cache.specs.Lines.{View, nth, table_views, ages, goes, Hit}
+use Rattle.cache.specs.Lines.{View, nth, table_views, ages, later, Timed, goes, Hit}
 use Rattle.cache.specs.Cache.{word_of, cached, flat, Whole, Held}
 
 -- the store fell, and f says so
@@ -79,7 +79,7 @@ pub record Worked (P R H : Type 0) : Type 0 where
 
 -- the store below a cache and the lines of the cache are ready for a call
 abbrev pub Ready : {S : Type 0} → (S → Meaning) → (S → Type 0) → Cache S → Type 0
-Ready meaning ready c = ready c.store × Held (meaning c.store) c.table.lost (table_views c.table)
+Ready meaning ready c = ready c.store × Held (meaning c.store) c.table.lost (table_views c.table) × Timed c.table
 
 -- work on the cache c that leaves d: where c was ready and `Pre` held, `Rel` holds of their meanings
 abbrev pub Works : {S : Type 0} → (S → Meaning) → (S → Type 0) → (Meaning → List View → Type 0) → (Meaning → List View → Meaning → List View → Type 0) → Cache S → Cache S → Type 0
@@ -104,10 +104,9 @@ abbrev pub Evicted : Result ℕ Fault → Meaning → List View → Meaning → 
 Evicted (Ok i) m vs n ws = EvictDone i m vs n ws
 Evicted (Err f) m vs n ws = Falls f (cached vs m) (cached ws n)
 
--- the line that is freed was longest unused
-abbrev pub Oldest : List ℕ → Result ℕ Fault → Type 0
-Oldest ages (Ok i) = (k : ℕ) → k < length ages → slice_index ages i ≤ slice_index ages k
-Oldest ages (Err f) = Unit {0}
+-- line i was longest unused
+abbrev pub Least : List ℕ → ℕ → Type 0
+Least ages i = (k : ℕ) → k < length ages → slice_index ages i ≤ slice_index ages k
 
 -- block b can be read into line i: it is granted and in no line, and line i is free
 pub record Loadable (b i : ℕ) (m : Meaning) (vs : List View) : Type 0 where
@@ -163,13 +162,60 @@ Any m vs = Unit {0}
 abbrev pub Has : LineTable → ℕ → ℕ → Type 0
 Has t b place = (i : ℕ) × Hit t.lost (table_views t) b place i
 
--- a line with block b was used last: its age is the clock
-abbrev pub Used : ℕ → LineTable → Type 0
-Used b t = (i : ℕ) × (((nth (table_views t) i).block ≡ b) × (slice_index (ages t) i ≡ t.clock))
+-- lines and clock are as they were
+pub record Still (t u : LineTable) : Type 0 where
+  pub lines : u.lines ≡ t.lines
+  pub clock : u.clock ≡ t.clock
+
+-- line i was emptied, and may hold another block; it counts as unused, and no other line changed
+pub record Vacated (i : ℕ) (t u : LineTable) : Type 0 where
+  pub clock : u.clock ≡ t.clock
+  pub aged : ages u ≡ slice_set (ages t) i 0
+  pub others : (k : ℕ) → k ≢ i → nth (table_views u) k ≡ nth (table_views t) k
+
+-- line i was longest unused, and made room
+abbrev pub MadeRoom : LineTable → Result ℕ Fault → LineTable → Type 0
+MadeRoom t (Ok i) u = Vacated i t u × Least (ages t) i
+MadeRoom t (Err f) u = Unit {0}
+
+-- line i has a block: it had it before and nothing changed, or it was longest unused and made room for it
+pub data Seated (i : ℕ) (t u : LineTable) : Type 0 where
+  stayed : u ≡ t → Seated i t u
+  moved : Vacated i t u → Least (ages t) i → Seated i t u
+
+-- what the lines are when a block was sought for a line
+abbrev pub Seats : LineTable → Result ℕ Fault → LineTable → Type 0
+Seats t (Ok i) u = Seated i t u
+Seats t (Err f) u = (f.refusal ≢ Down) → Still t u
+
+-- line i was used last, for block b, and no other line changed; had it another block before, it was longest unused
+pub record Turned (b i : ℕ) (t u : LineTable) : Type 0 where
+  pub clock : u.clock ≡ later t.clock
+  pub aged : ages u ≡ slice_set (ages t) i u.clock
+  pub block : (nth (table_views u) i).block ≡ b
+  pub others : (k : ℕ) → k ≢ i → nth (table_views u) k ≡ nth (table_views t) k
+  pub oldest : ((nth (table_views t) i).block ≢ b) → Least (ages t) i
+
+-- what a get or a set of block b leaves of the lines: where it's refused, but for 'down', they are as they were
+abbrev pub Uses : {A : Type 0} → ℕ → LineTable → Result A Fault → LineTable → Type 0
+Uses b t (Ok x) u = (i : ℕ) × Turned b i t u
+Uses b t (Err f) u = (f.refusal ≢ Down) → Still t u
+
+-- block b was given back: a line that had it has none and counts as unused, and no other line changed
+pub record Dropped (b : ℕ) (t u : LineTable) : Type 0 where
+  pub clock : u.clock ≡ t.clock
+  pub freed : (k : ℕ) → (nth (table_views t) k).block ≡ b → ((nth (table_views u) k).block ≡ 0) × (slice_index (ages u) k ≡ 0)
+  pub others : (k : ℕ) → ((nth (table_views t) k).block ≢ b) → (nth (table_views u) k ≡ nth (table_views t) k) × (slice_index (ages u) k ≡ slice_index (ages t) k)
+
+-- what giving block b back leaves of the lines
+abbrev pub Drops : {A : Type 0} → ℕ → LineTable → Result A Fault → LineTable → Type 0
+Drops b t (Ok x) u = Dropped b t u
+Drops b t (Err f) u = Still t u
 
 -- a new cache over m, whose lines hold nothing
 pub record Opened (m : Meaning) (t : LineTable) : Type 0 where
   pub held : Held m t.lost (table_views t)
+  pub timed : Timed t
   pub same : flat (table_views t) m ≡ m
 
 -- a store call on the cache c, which answers r and leaves d

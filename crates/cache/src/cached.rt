@@ -1,8 +1,8 @@
 // A write-back cache over any store: a changed line goes down when it is evicted or the cache is closed.
 ghost use Rattle.std.specs.Prelude.{◌≡◌, ◌<◌, IfOk, vec_len};
-ghost use Rattle.store.specs.Calls.{Get, Set, Left};
-ghost use Rattle.cache.specs.Lines.{table_views, ages, Unused};
-ghost use Rattle.cache.specs.Steps.{Ready, Works, Any, Up, Evicted, Oldest, Missing, Brought, Fetched, Has, Used, Serves, Opened, Flushed, Closes};
+ghost use Rattle.store.specs.Calls.{Take, Give, Get, Set, Stocked, Left};
+ghost use Rattle.cache.specs.Lines.{table_views, Timed, Unused};
+ghost use Rattle.cache.specs.Steps.{Ready, Works, Any, Up, Evicted, MadeRoom, Missing, Brought, Fetched, Has, Seats, Uses, Still, Drops, Serves, Opened, Flushed, Closes};
 ghost use Rattle.cache.specs.Cache.{cached};
 ghost use Rattle.cache.specs.Laws.Overlays.{cached_sound};
 
@@ -56,11 +56,12 @@ impl<S: Store> Cache<S> {
     // contract would have to tell its later value too.
     fn evict(&mut self) -> Result<usize, Fault>
         ensures within { IfOk result (λ i. i < vec_len self.new.table.lines) }
-        ensures oldest { Oldest (ages self.old.table) result }
+        ensures room { MadeRoom self.old.table result self.new.table }
+        ensures timed { Timed self.old.table → Timed self.new.table }
         ensures works { Works S.meaning S.ready Up (Evicted result) self.old self.new }
     {
         let i = self.table.oldest();
-        let out = empty(&mut self.store, &mut self.table.lines[i]);
+        let out = empty(&mut self.store, self.table.line(i));
         self.table.note(out)?;
         Ok(i)
     }
@@ -68,10 +69,12 @@ impl<S: Store> Cache<S> {
     // Brings a block up into the line that was longest unused.
     fn bring(&mut self, block: u32) -> Result<usize, Fault>
         ensures within { IfOk result (λ i. i < vec_len self.new.table.lines) }
+        ensures room { MadeRoom self.old.table result self.new.table }
+        ensures timed { Timed self.old.table → Timed self.new.table }
         ensures works { Works S.meaning S.ready (Missing block) (Brought block result) self.old self.new }
     {
         let i = self.evict()?;
-        let read = fill(&mut self.store, block, &mut self.table.lines[i]);
+        let read = fill(&mut self.store, block, self.table.line(i));
         self.table.note(read)?;
         Ok(i)
     }
@@ -80,6 +83,8 @@ impl<S: Store> Cache<S> {
     fn fetch(&mut self, block: u32, place: u32) -> Result<usize, Fault>
         ensures within { IfOk result (λ i. i < vec_len self.new.table.lines) }
         ensures hit { Has self.old.table block place → self.new ≡ self.old }
+        ensures seats { Ready S.meaning S.ready self.old → Seats self.old.table result self.new.table }
+        ensures timed { Timed self.old.table → Timed self.new.table }
         ensures works { Works S.meaning S.ready Any (Fetched block place result) self.old self.new }
     {
         if let Some(i) = self.table.hit(block, place) {
@@ -97,14 +102,20 @@ impl<S: Store> Store for Cache<S> {
 
     ghost sound = { λ s r. cached_sound (S.Store.sound s.store r.0) r.1 };
 
-    fn take(&mut self) -> Result<u32, Fault> {
+    fn take(&mut self) -> Result<u32, Fault>
+        ensures keeps { Serves S.meaning S.ready Take self.old result self.new }
+        ensures still { Still self.old.table self.new.table }
+    {
         self.table.note(self.store.take())
     }
 
-    fn give_back(&mut self, block: u32) -> Result<(), Fault> {
+    fn give_back(&mut self, block: u32) -> Result<(), Fault>
+        ensures keeps { Serves S.meaning S.ready (Give block) self.old result self.new }
+        ensures drops { Ready S.meaning S.ready self.old → Drops block self.old.table result self.new.table }
+    {
         self.table.note(self.store.give_back(block))?;
         if let Some(i) = self.table.find(block) {
-            self.table.lines[i].clear();
+            self.table.line(i).clear();
         }
         Ok(())
     }
@@ -112,25 +123,26 @@ impl<S: Store> Store for Cache<S> {
     fn get(&mut self, block: u32, place: u32) -> Result<u64, Fault>
         ensures keeps { Serves S.meaning S.ready (Get block place) self.old result self.new }
         ensures hit { Has self.old.table block place → self.new.store ≡ self.old.store }
-        ensures used { Ready S.meaning S.ready self.old → IfOk result (λ _. Used block self.new.table) }
+        ensures uses { Ready S.meaning S.ready self.old → Uses block self.old.table result self.new.table }
     {
         let i = self.fetch(block, place)?;
-        self.table.touch(i);
-        Ok(self.table.lines[i].word(place))
+        Ok(self.table.used(i).word(place))
     }
 
     fn set(&mut self, block: u32, place: u32, word: u64) -> Result<(), Fault>
         ensures keeps { Serves S.meaning S.ready (Set block place word) self.old result self.new }
         ensures hit { Has self.old.table block place → self.new.store ≡ self.old.store }
-        ensures used { Ready S.meaning S.ready self.old → IfOk result (λ _. Used block self.new.table) }
+        ensures uses { Ready S.meaning S.ready self.old → Uses block self.old.table result self.new.table }
     {
         let i = self.fetch(block, place)?;
-        self.table.touch(i);
-        self.table.lines[i].put(place, word);
+        self.table.used(i).put(place, word);
         Ok(())
     }
 
-    fn stock(&mut self) -> Result<Stock, Fault> {
+    fn stock(&mut self) -> Result<Stock, Fault>
+        ensures keeps { Serves S.meaning S.ready Stocked self.old result self.new }
+        ensures still { Still self.old.table self.new.table }
+    {
         self.table.note(self.store.stock())
     }
 }

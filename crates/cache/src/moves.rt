@@ -1,4 +1,5 @@
 // Lines that go down to a store and come up from it.
+ghost use Rattle.std.specs.Prelude.{◌≡◌, ◌≤◌, IfOk};
 ghost use Rattle.store.specs.Calls.{Leaves};
 ghost use Rattle.cache.specs.Lines.{view};
 ghost use Rattle.cache.specs.Steps.{Spilled, Emptied, Filled, Heard};
@@ -19,7 +20,9 @@ fn spill<S: Store>(store: &mut S, line: &Line) -> Result<(), Fault>
 
 // Writes the words of a changed line into its block below, and leaves the line with no block.
 pub(crate) fn empty<S: Store>(store: &mut S, line: &mut Line) -> Result<(), Fault>
-    ensures { Leaves S.meaning S.ready (Emptied (view line.old) (view line.new)) store.old result store.new }
+    ensures leaves { Leaves S.meaning S.ready (Emptied (view line.old) (view line.new)) store.old result store.new }
+    ensures used { IfOk result (λ _. line.new.used ≡ 0) }
+    ensures sooner { line.new.used ≤ line.old.used }
 {
     if line.goes() {
         spill(store, line)?;
@@ -30,7 +33,8 @@ pub(crate) fn empty<S: Store>(store: &mut S, line: &mut Line) -> Result<(), Faul
 
 // Reads a block into a line that has none.
 pub(crate) fn fill<S: Store>(store: &mut S, block: u32, line: &mut Line) -> Result<(), Fault>
-    ensures { Leaves S.meaning S.ready (Filled block (view line.old) (view line.new)) store.old result store.new }
+    ensures leaves { Leaves S.meaning S.ready (Filled block (view line.old) (view line.new)) store.old result store.new }
+    ensures used { line.new.used ≡ line.old.used }
 {
     let width = store.stock()?.width.min(WIDEST);
     line.words.clear();

@@ -1,7 +1,8 @@
 // What a table of lines does by itself.
-ghost use Rattle.std.specs.Prelude.{◌≡◌, ℕ, ◌<◌, ◌≤◌, vec_len, slice_index, slice_set};
+ghost use Rattle.std.specs.Borrow.{sem};
+ghost use Rattle.std.specs.Prelude.{◌≡◌, ℕ, ◌<◌, ◌≤◌, vec_len, slice_index, slice_index_or};
 ghost use Rattle.store.specs.Layers.{raised};
-ghost use Rattle.cache.specs.Lines.{view, table_views, ages, Made, Hits, Finds, Noted, has, set_view, free_view, goes};
+ghost use Rattle.cache.specs.Lines.{view, nth, table_views, ages, later, Made, Hits, Finds, Noted, has, set_view, free_view, goes};
 
 use crate::line::{Line, LineTable};
 use std::alloc::Global;
@@ -43,7 +44,8 @@ impl Line {
 
     // Takes the block from it.
     pub(crate) fn clear(&mut self)
-        ensures { view self.new ≡ free_view (view self.old) }
+        ensures view { view self.new ≡ free_view (view self.old) }
+        ensures used { self.new.used ≡ 0 }
     {
         self.block = 0;
         self.changed = false;
@@ -52,6 +54,8 @@ impl Line {
 }
 
 impl LineTable {
+    ghost use Rattle.cache.specs.Lent.{LendsLine, LendsUsed};
+
     // A table of unused lines, each with room for the largest block.
     pub fn new(heap: Global, lines: u32) -> Result<LineTable, Unmade>
         ensures { Made lines result }
@@ -105,22 +109,35 @@ impl LineTable {
             .map_or(0, |(i, _)| i)
     }
 
-    // Marks a line as used now.
-    pub(crate) fn touch(&mut self, i: usize)
+    // Lends a line.
+    pub(crate) fn line(&mut self, i: usize) -> &mut Line
         requires { i < vec_len self.old.lines }
-        ensures lost { self.new.lost ≡ self.old.lost }
-        ensures count { vec_len self.new.lines ≡ vec_len self.old.lines }
-        ensures views { table_views self.new ≡ table_views self.old }
-        ensures clock { ages self.new ≡ slice_set (ages self.old) i self.new.clock }
+        ensures* lent { sem 𝓛 (LendsLine self.entry i result) }
+        ensures line { result.now ≡ slice_index_or self.old.lines.items i result.now }
+    {
+        &mut self.lines[i]
+    }
+
+    // Lends a line, marked as used now.
+    pub(crate) fn used(&mut self, i: usize) -> &mut Line
+        requires { i < vec_len self.old.lines }
+        ensures* lent { sem 𝓛 (LendsUsed self.entry i result) }
+        ensures line { view result.now ≡ nth (table_views self.old) i }
+        ensures used { result.now.used ≡ later self.old.clock }
+        ensures forward { self.old.clock ≤ later self.old.clock }
     {
         self.clock = self.clock.saturating_add(1);
-        self.lines[i].used = self.clock;
+        let now = self.clock;
+        let line = self.line(i);
+        line.used = now;
+        line
     }
 
     // What the store below answered, as the cache answers; 'down' is kept in mind.
     pub(crate) fn note<T>(&mut self, r: Result<T, Fault>) -> Result<T, Fault>
         ensures answer { result ≡ raised r }
         ensures lines { self.new.lines ≡ self.old.lines }
+        ensures clock { self.new.clock ≡ self.old.clock }
         ensures lost { Noted self.old.lost r self.new.lost }
     {
         if r.as_ref().is_err_and(|f| f.refusal == Refusal::Down) {

@@ -6,6 +6,7 @@ abbrev pub invariant-loop-i : goal.invariant-loop-i
 invariant-loop-i g l =
     (vec_len l.line.words ≡ l.i)
     × (l.line.block ≡ l.initial.line.block)
+    × (l.line.used ≡ l.initial.line.used)
     × (g.S.Store.ready l.initial.store
     → g.S.Store.ready l.store
     × ((g.S.Store.meaning l.initial.store).granted l.block ≡ true

@@ -3,6 +3,7 @@ use Rattle.cache.specs.Lines.{views, table_views}
 use Rattle.cache.specs.Cache.{Held}
 use Rattle.cache.specs.Steps.{FetchFails, Brought, Missing}
 use Rattle.cache.proofs.Exits.{at_exit}
+use Rattle.cache.proofs.Turns.{seats}
 use Rattle.cache.proofs.Fetches.{first_err, first_ok, fetched}
 use Rattle.cache.proofs.cached.Cache.fetch.Goals as goal
 
@@ -43,3 +44,17 @@ returns-clause-works g c r h _ =
       ready = d.ready;
       held = d.held;
     }
+
+pub returns-clause-seats : goal.returns-clause-seats
+returns-clause-seats g c p =
+    let r = p.0 in
+    let h = p.1 in
+    let s = c.args.self.now in
+    let b = c.args.block in
+    let n = g.S.Store.meaning c.get.new.self in
+    let ve : table_views c.note.new.self ≡ table_views s.table = ap (λ l. views l.items) c.note.ensures.lines in
+    let law = g.S.Store.sound s.store r in
+    let e = c.get.ensures.keeps r in
+    let f = first_ok b c.args.place c.get.result law.none_at_zero c.in_ok-note.ensures.answer e.call c.note.ensures.lost h c.in_default.ensures in
+    let d = c.bring.ensures.works e.ready (subst (Held n c.note.new.self.lost) (sym ve) f.held) (subst (Missing b n) (sym ve) f.missing) in
+    seats s.table c.note.new.self c.bring.new.self.table b n (g.S.Store.meaning c.bring.new.self.store) (table_views c.note.new.self) (table_views c.bring.new.self.table) c.bring.result c.note.ensures.lines c.note.ensures.clock c.bring.ensures.room d.call

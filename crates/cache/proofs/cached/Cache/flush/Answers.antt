@@ -21,7 +21,7 @@ loop-line-preserved g c r h up =
     let old = get_or ls i c.line-item.result in
     let v = get_or-map view ls i c.line-item.result blank (omega arith) in
     let e : c.map_err-in-loop-line.result ≡ raised c.empty.result = search rules in
-    let out = c.empty.ensures q.0 in
+    let out = c.empty.ensures.leaves q.0 in
     let d = was_ok (λ a. Empty (view old) w n a k) c.empty.result (sym c.in_ok-map_err-2.was ∙ e) (out.call (goes_whole i v q.1.held)) in
     let law = g.S.Store.sound c.loop-line.store q.0 in
     (out.ready, simp map-set (closing_more w law.none_at_zero up l (subst (λ x. EmptyDone x w n k) (sym v) d) q.1))
@@ -43,7 +43,7 @@ returns-in_err-map_err-2 g c =
     let v = get_or-map view ls i c.line-item.result blank (omega arith) in
     let k = g.S.Store.meaning c.empty.new.store in
     let e₂ : c.map_err-in-loop-line.result ≡ raised c.empty.result = search rules in
-    let out = c.empty.ensures q.0 in
+    let out = c.empty.ensures.leaves q.0 in
     let d = was_err (λ a. Empty (view old) (view c.empty.new.line) (g.S.Store.meaning c.loop-line.store) a k) c.empty.result (sym c.in_err-map_err-2.was ∙ e₂) (out.call (goes_whole i v q.1.held)) in
     record { call = subst (λ f. CloseFails f m k) d.1 (fails_of up.0 (closing_exit d.2.down q.1)); ready = out.ready })
 

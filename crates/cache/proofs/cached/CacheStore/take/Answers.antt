@@ -2,6 +2,7 @@ use Rattle.std.proofs.Common.{◌≡◌, sym, ap, subst}
 use Rattle.store.specs.Calls.{Take}
 use Rattle.cache.specs.Lines.{views, table_views}
 use Rattle.cache.specs.Cache.{cached, Held}
+use Rattle.cache.proofs.Turns.{timed_still}
 use Rattle.cache.proofs.Services.{took}
 use Rattle.cache.proofs.cached.CacheStore.take.Goals as goal
 
@@ -18,5 +19,5 @@ returns-clause-keeps g c r =
     record {
       call = subst (λ us. Take (cached vs m) c.note.result (cached us n)) (sym ve) all.0;
       deep = all.1;
-      ready = (e.ready, subst (Held n c.note.new.self.lost) (sym ve) all.2);
+      ready = (e.ready, subst (Held n c.note.new.self.lost) (sym ve) all.2, timed_still s.table c.note.new.self c.note.ensures.lines c.note.ensures.clock r.2);
     }
