@@ -54,7 +54,7 @@ returns-then-root-ge-TOP_LEVEL g c = λ h.
       call = λ s.
           let ok = a.call s in
           let grew = grew_at (of g) (law g) _ _ _ s ok.reason _ _ _ _ ok.done (b.call (roomy_at (of g) (law g) _ _ _ s ok.reason _ ok.done)) in
-          absurd (omega (arith, level_low (of g) (law g) _ _ _ s ok.reason _ _ _ grew _ c.limit.ensures c.if-keys-limit.false, c.if-root-ge-TOP_LEVEL.true));
+          absurd (omega (arith, level_low (of g) (law g) _ _ _ s ok.reason _ _ _ grew _ c.limit.ensures (omega (arith, c.if-keys-limit.false)), c.if-root-ge-TOP_LEVEL.true));
       ready = b.ready;
     }
 
@@ -68,7 +68,7 @@ returns-in_err-raise g c =
       call = λ s.
           let ok = a.call s in
           let grew = grew_at (of g) (law g) _ _ _ s ok.reason _ _ _ _ ok.done (b.call (roomy_at (of g) (law g) _ _ _ s ok.reason _ ok.done)) in
-          inl (lost_later (kin_step _ _ _ _ grew.step) (d.call (insert_tall (of g) (law g) _ _ _ s ok.reason _ _ _ grew _ c.limit.ensures c.if-keys-limit.false (number_low _ c.args.tree.bounded.root_high))));
+          inl (lost_later (kin_step _ _ _ _ grew.step) (d.call (insert_tall (of g) (law g) _ _ _ s ok.reason _ _ _ grew _ c.limit.ensures (omega (arith, c.if-keys-limit.false)) (number_low _ c.args.tree.bounded.root_high))));
       ready = d.ready;
     })
 
@@ -81,7 +81,7 @@ returns g c = λ h.
       call = λ s.
           let ok = a.call s in
           let grew = grew_at (of g) (law g) _ _ _ s ok.reason _ _ _ _ ok.done (b.call (roomy_at (of g) (law g) _ _ _ s ok.reason _ ok.done)) in
-          let rose = d.call (insert_tall (of g) (law g) _ _ _ s ok.reason _ _ _ grew _ c.limit.ensures c.if-keys-limit.false (number_low _ c.args.tree.bounded.root_high)) in
-          record { reason = ok.reason; done = becomes_high (of g) (law g) _ _ _ s ok.reason _ _ _ grew _ c.limit.ensures c.if-keys-limit.false _ _ _ rose c.in_ok-raise.ensures.level refl refl c.with.ensures };
+          let rose = d.call (insert_tall (of g) (law g) _ _ _ s ok.reason _ _ _ grew _ c.limit.ensures (omega (arith, c.if-keys-limit.false)) (number_low _ c.args.tree.bounded.root_high)) in
+          record { reason = ok.reason; done = becomes_high (of g) (law g) _ _ _ s ok.reason _ _ _ grew _ c.limit.ensures (omega (arith, c.if-keys-limit.false)) _ _ _ rose c.in_ok-raise.ensures.level refl refl c.with.ensures };
       ready = d.ready;
     }
