@@ -1,7 +1,7 @@
 // A block store in two lent runs: the words of all blocks, and a mark for each block. A layout tells where the words of
 // each block stand. A word past the end of the run reads as 0.
 ghost use Rattle.std.specs.Prelude.{◌≡◌, slice_index};
-ghost use Rattle.stores.specs.Opened.{means, Ready, FreshOr, ReopenedOr, StillMeans};
+ghost use Rattle.stores.specs.Opened.{means, Ready, FreshOr, ReopenedOr, StillMeans, OpenAgain};
 ghost use Rattle.stores.specs.Steps.{Put, Wiping, Granting, OverOr, LocatedIn};
 ghost use Rattle.stores.specs.Laws.Plans.{plan_sound};
 
@@ -53,11 +53,13 @@ impl<'a, L: Layout> LentStore<'a, L> {
         Ok(store)
     }
 
-    // Ends the store, and yields its runs.
+    // Ends the store, and yields its runs. Those of a ready store, opened again with its width, mean what it meant, unless
+    // what is no fault of the runs refuses them.
     pub fn into_runs(self) -> Runs<'a, L>
         ensures words { result.words.now ≡ self.entry.words.now }
         ensures marks { result.marks.now ≡ self.entry.grants.marks.now }
         ensures layout { result.layout ≡ self.entry.layout }
+        ensures again { Ready L.plan self.entry → OpenAgain L.plan self.entry result }
     {
         let LentStore {
             words,
@@ -72,8 +74,7 @@ impl<'a, L: Layout> LentStore<'a, L> {
         }
     }
 
-    // Ends the store, and opens its runs again: of a ready store only what is no fault of the runs refuses this, and
-    // it means the same.
+    // Ends the store, and opens its runs again.
     pub fn reopened(self) -> Result<LentStore<'a, L>, Refused<L::Cause, Runs<'a, L>>>
         ensures { Ready L.plan self.entry → StillMeans L.plan self.entry result }
     {
