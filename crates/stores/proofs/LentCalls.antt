@@ -87,9 +87,9 @@ module _ {L E : Type 0} (plan : L → Plan E) where
     }
 
     -- a block given back
-    pub gave_block : {t : Grants} {b : ℕ} → in_use s.grants.capacity s.grants.marks.now b ≡ true → Removing s.grants (b - 1) t → Told (GiveDone (means plan s) b (means plan (record s { grants = t }))) (Unit {0}) (Ready plan (record s { grants = t }))
-    gave_block {t = t} {b = b} u r =
-        let d = noted {s = s} {t = t} r.capacity_is r.granted_is r.marks_are in
+    pub gave_block : {t : Grants} {b slot : ℕ} → in_use s.grants.capacity s.grants.marks.now b ≡ true → slot ≡ b - 1 → Removing s.grants slot t → Told (GiveDone (means plan s) b (means plan (record s { grants = t }))) (Unit {0}) (Ready plan (record s { grants = t }))
+    gave_block {t = t} {b = b} u e r =
+        let d = noted {s = s} {t = t} r.capacity_is r.granted_is (r.marks_are ∙ ap (λ k. set s.grants.marks.now k 0) e) in
         record {
           call = gave (law.lies f) u (becomes_means d);
           deep = tt;
@@ -106,7 +106,7 @@ module _ {L E : Type 0} (plan : L → Plan E) where
         h
 
     -- a block taken, at the slot p
-    module _ {t : LentStore L} (p : ℕ) (at : Spare s.grants p) (d : Granting plan s p t) where
+    module _ {t : LentStore L} (p b : ℕ) (e : b ≡ p + 1) (at : Spare s.grants p) (d : Granting plan s p t) where
       back : p + 1 - 1 ≡ p
       back = omega arith
 
@@ -118,9 +118,9 @@ module _ {L E : Type 0} (plan : L → Plan E) where
           one_more (law.lies f) (p + 1) (omega arith) (omega (arith, at.free.low)) (was_free (law.lies f) p at.free.low at.free.unused) at.few
           ∙ ap (λ q. count_to (in_use s.grants.capacity (set s.grants.marks.now q 1)) limit) back
 
-      pub took_block : Told (TakeDone (means plan s) (p + 1) (means plan t)) (Unit {0}) (Ready plan t)
+      pub took_block : Told (TakeDone (means plan s) b (means plan t)) (Unit {0}) (Ready plan t)
       took_block = record {
-        call = took (law.lies f) p at.free.low at.free.unused at.few after;
+        call = subst (λ k. TakeDone (means plan s) k (means plan t)) (sym e) (took (law.lies f) p at.free.low at.free.unused at.few after);
         deep = tt;
         ready = becomes_ready d (refits f (min (s.grants.granted + 1) 4294967295) (set s.grants.marks.now p 1) (wiped ((plan s.layout).at s.width p) s.width s.words.now) (length-set s.grants.marks.now p 1) (wiped_length ((plan s.layout).at s.width p) s.words.now s.width) counts);
       }

@@ -42,6 +42,7 @@ impl<'a, L: Layout> LentStore<'a, L> {
     }
 
     // A store over runs as they were left: its grants are those that the marks tell.
+    #[tactic(auto, using(crate::proofs::LentCalls::made_again))]
     pub fn reopen(
         runs: Runs<'a, L>,
         width: u32,
@@ -111,6 +112,7 @@ impl<'a, L: Layout> LentStore<'a, L> {
     }
 
     // Where a word of a granted block stands in the run.
+    #[tactic(auto, using(crate::specs::Laws::Laid::used_parts))]
     fn locate(&self, block: u32, place: u32) -> Result<usize, Fault>
         ensures { LocatedIn L.plan self.now block place result }
     {
@@ -169,6 +171,7 @@ impl<'a, L: Layout> Store for LentStore<'a, L> {
         Ok(slot + 1)
     }
 
+    #[tactic(auto, using(crate::specs::Laws::Laid::used_parts))]
     fn give_back(&mut self, block: u32) -> Result<(), Fault> {
         if !self.grants.has(block) {
             return Err(Fault::own(Refusal::NotGranted, block));
@@ -177,6 +180,7 @@ impl<'a, L: Layout> Store for LentStore<'a, L> {
         Ok(())
     }
 
+    #[tactic(auto, using(crate::proofs::LaidCalls::got))]
     fn get(&mut self, block: u32, place: u32) -> Result<u64, Fault> {
         let at = self.locate(block, place)?;
         Ok(self.word(at))
