@@ -12,6 +12,7 @@ use Rattle.stores.specs.Located.{Found}
 use Rattle.stores.specs.Grants.{Removing, Clearing, Counting, Spare, Free}
 use Rattle.stores.specs.Opened.{means, Ready, Fresh, Reopened}
 use Rattle.stores.specs.Steps.{Becomes, Put, Cleared, Granting, Over}
+use Rattle.stores.specs.Touched.{Marked}
 use Rattle.stores.specs.Laws.Clearing.{wiped_none, wiped_more, wiped_length, cleared_length}
 use Rattle.stores.specs.Laws.Laid.{one_less, one_more, laid_blank, count_blank, count_capacity, count_marked}
 use Rattle.stores.specs.Laws.Plans.{Lawful}
@@ -75,6 +76,16 @@ module _ {L E : Type 0} (plan : L → Plan E) where
         granted_is = p.granted_is ∙ d.granted_is;
         marks_are = p.marks_are ∙ d.marks_are;
         words_are = p.words_are ∙ ap₂ (λ xs k. set xs k 0) d.words_are here ∙ sym (wiped_more at s.words.now n);
+      }
+
+  -- the mark of the block in a slot was set, and its words cleared
+  pub marked : {s t : LentStore L} (slot b : ℕ) → b ≡ slot + 1 → Granting plan s slot t → Marked plan s t b
+  marked {s} {t} slot b e d =
+      let back : slot ≡ b - 1 = omega arith in
+      record {
+        byte = 1;
+        some = λ z. absurd (omega arith);
+        runs = subst (λ q. Becomes s t (min (s.grants.granted + 1) 4294967295) (set s.grants.marks.now q 1) (wiped ((plan s.layout).at s.width q) s.width s.words.now)) back d;
       }
 
   module _ (s : LentStore L) (law : Lawful (plan s.layout)) (f : Ready plan s) where

@@ -1,6 +1,8 @@
 // A block store in two lent runs: the words of all blocks, and a mark for each block. A layout tells where the words of
 // each block stand. A word past the end of the run reads as 0.
 ghost use Rattle.std.specs.Prelude.{◌≡◌, slice_index};
+ghost use Rattle.store.specs.Calls.{Keeps, Take, Give, Get, Set, Stocked};
+ghost use Rattle.stores.specs.Touched.{Untouched, TakeLeaves, GiveLeaves, SetLeaves};
 ghost use Rattle.stores.specs.Opened.{means, Ready, FreshOr, ReopenedOr, StillMeans, OpenAgain};
 ghost use Rattle.stores.specs.Steps.{Put, Wiping, Granting, OverOr, LocatedIn};
 ghost use Rattle.stores.specs.Laws.Plans.{plan_sound};
@@ -163,7 +165,10 @@ impl<'a, L: Layout> Store for LentStore<'a, L> {
 
     ghost sound = { λ s f. plan_sound (L.Layout.lawful s.layout) f };
 
-    fn take(&mut self) -> Result<u32, Fault> {
+    fn take(&mut self) -> Result<u32, Fault>
+        ensures keeps { Keeps (means L.plan) (Ready L.plan) Take self.old result self.new }
+        ensures runs { TakeLeaves L.plan self.old result self.new }
+    {
         let Some(slot) = self.grants.free_slot() else {
             return Err(Fault::own(Refusal::NoRoom, 0));
         };
@@ -172,7 +177,10 @@ impl<'a, L: Layout> Store for LentStore<'a, L> {
     }
 
     #[tactic(auto, using(crate::specs::Laws::Laid::used_parts))]
-    fn give_back(&mut self, block: u32) -> Result<(), Fault> {
+    fn give_back(&mut self, block: u32) -> Result<(), Fault>
+        ensures keeps { Keeps (means L.plan) (Ready L.plan) (Give block) self.old result self.new }
+        ensures runs { GiveLeaves block self.old result self.new }
+    {
         if !self.grants.has(block) {
             return Err(Fault::own(Refusal::NotGranted, block));
         }
@@ -181,18 +189,27 @@ impl<'a, L: Layout> Store for LentStore<'a, L> {
     }
 
     #[tactic(auto, using(crate::proofs::LaidCalls::got))]
-    fn get(&mut self, block: u32, place: u32) -> Result<u64, Fault> {
+    fn get(&mut self, block: u32, place: u32) -> Result<u64, Fault>
+        ensures keeps { Keeps (means L.plan) (Ready L.plan) (Get block place) self.old result self.new }
+        ensures runs { Untouched self.old self.new }
+    {
         let at = self.locate(block, place)?;
         Ok(self.word(at))
     }
 
-    fn set(&mut self, block: u32, place: u32, word: u64) -> Result<(), Fault> {
+    fn set(&mut self, block: u32, place: u32, word: u64) -> Result<(), Fault>
+        ensures keeps { Keeps (means L.plan) (Ready L.plan) (Set block place word) self.old result self.new }
+        ensures runs { SetLeaves L.plan block place word self.old result self.new }
+    {
         let at = self.locate(block, place)?;
         self.put(at, word);
         Ok(())
     }
 
-    fn stock(&mut self) -> Result<Stock, Fault> {
+    fn stock(&mut self) -> Result<Stock, Fault>
+        ensures keeps { Keeps (means L.plan) (Ready L.plan) Stocked self.old result self.new }
+        ensures runs { Untouched self.old self.new }
+    {
         Ok(Stock {
             width: self.width,
             granted: self.grants.granted,
