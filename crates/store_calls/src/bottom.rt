@@ -40,6 +40,7 @@ pub(crate) struct Map {
 }
 
 impl Map {
+    // The entries, from the first on.
     fn list(self, heap: Global) -> Result<Vec<u32>, AllocError> {
         (0..self.entries)
             .map(|i| self.first.checked_sub(i).unwrap_or(self.past))

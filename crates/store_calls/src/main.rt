@@ -40,12 +40,12 @@ fn main(rt: HostRuntime) -> anyhow::Result<()> {
     let mut input = Vec::new(heap);
     rt.stdin().take(1_000_000).read_to_end(&mut input)?;
     let calls = parse(heap, std::str::from_utf8(&input)?)?;
-    for (name, bottom) in BOTTOMS {
-        let text = answers(heap, Layers::Bare, Layers::Bare, bottom, &calls)?;
+    for (name, bottom) in &BOTTOMS {
+        let text = answers(heap, Layers::Bare, Layers::Bare, *bottom, &calls)?;
         print!(rt; "{name}\n{text}")?;
     }
-    for (name, early, late, bottom) in PILES {
-        let text = answers(heap, early, late, bottom, &calls)?;
+    for (name, early, late, bottom) in &PILES {
+        let text = answers(heap, *early, *late, *bottom, &calls)?;
         print!(rt; "{name}\n{text}")?;
     }
     Ok(())

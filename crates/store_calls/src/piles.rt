@@ -26,7 +26,7 @@ const PAGED: Bottom = Bottom {
 };
 
 // Every store at the bottom, with its name.
-pub(crate) const BOTTOMS: [(&str, Bottom); 23] = [
+pub(crate) static BOTTOMS: [(&str, Bottom); 23] = [
     ("table", TABLE),
     (
         "table, one word short of a block more",
@@ -180,7 +180,7 @@ pub(crate) const BOTTOMS: [(&str, Bottom); 23] = [
 ];
 
 // Every pile, with its name: the layers of the early calls, those of the late ones, and the store below.
-pub(crate) const PILES: [(&str, Layers, Layers, Bottom); 17] = [
+pub(crate) static PILES: [(&str, Layers, Layers, Bottom); 17] = [
     (
         "quota 0 over table",
         Layers::Quota(0),
