@@ -1,6 +1,6 @@
 // Stores at the bottom of a pile, told by what they are lent.
-use crate::call::Session;
-use crate::layers::{Part, play};
+use crate::call::{Call, Session};
+use crate::layers::{Layers, play};
 use paged::paged::{Frames, PagedStore};
 use std::alloc::{AllocError, Global};
 use store::fault::Unmade;
@@ -34,7 +34,7 @@ pub(crate) enum Spread {
 // A map of so many entries. They name the frames from `first` down to 0, and from there on all name `past`.
 #[derive(Clone, Copy)]
 pub(crate) struct Map {
-    pub(crate) entries: u32,
+    pub(crate) entries: usize,
     pub(crate) first: u32,
     pub(crate) past: u32,
 }
@@ -42,9 +42,11 @@ pub(crate) struct Map {
 impl Map {
     // The entries, from the first on.
     fn list(self, heap: Global) -> Result<Vec<u32>, AllocError> {
-        (0..self.entries)
-            .map(|i| self.first.checked_sub(i).unwrap_or(self.past))
-            .collect(heap)
+        let mut list = vec![in heap; self.past; self.entries]?;
+        for (entry, frame) in list.iter_mut().zip((0..=self.first).rev()) {
+            *entry = frame;
+        }
+        Ok(list)
     }
 }
 
@@ -56,15 +58,20 @@ fn spared<T: Copy + PartialEq>(run: &[T], from: usize, lent: T) -> usize {
         .count()
 }
 
-// What piles over a table store answer, one part of the calls each, and what is spared of its runs. The store is made for
+// What layers over a table store answer, each to a part of the calls, and what is spared of its runs. The store is made for
 // the first, and its runs are opened again for each that follows. It and the next are two functions: one over any layout
 // was tried, and proves, but not its call with a lent map, where the borrow checker's part finds two types that differ.
-fn over_table(heap: Global, bottom: Bottom, parts: &[Part]) -> Result<String, AllocError> {
+fn over_table(
+    heap: Global,
+    bottom: Bottom,
+    layers: [Layers; 3],
+    calls: &[Vec<Call>],
+) -> Result<String, AllocError> {
     let mut words = vec![in heap; WORD; bottom.words]?;
     let mut marks = vec![in heap; MARK; bottom.marks]?;
     let mut session = Session::new(heap);
     let mut capacity = 0;
-    for (i, part) in parts.iter().enumerate() {
+    for (i, (layers, calls)) in layers.iter().zip(calls).enumerate() {
         let runs = Runs {
             words: &mut words,
             marks: &mut marks,
@@ -75,7 +82,7 @@ fn over_table(heap: Global, bottom: Bottom, parts: &[Part]) -> Result<String, Al
             _ => TableStore::reopen(runs, bottom.width),
         };
         let played = match opened {
-            Ok(store) => play(heap, *part, store, &mut session),
+            Ok(store) => play(heap, *layers, store, calls, &mut session),
             Err(unfit) => Err(Unmade::from(unfit.cause)),
         };
         capacity = session.ended(played)?;
@@ -90,14 +97,15 @@ fn over_pages(
     heap: Global,
     bottom: Bottom,
     map: Map,
-    parts: &[Part],
+    layers: [Layers; 3],
+    calls: &[Vec<Call>],
 ) -> Result<String, AllocError> {
     let mut words = vec![in heap; WORD; bottom.words]?;
     let mut marks = vec![in heap; MARK; bottom.marks]?;
     let map = map.list(heap)?;
     let mut session = Session::new(heap);
     let mut capacity = 0;
-    for (i, part) in parts.iter().enumerate() {
+    for (i, (layers, calls)) in layers.iter().zip(calls).enumerate() {
         let runs = Runs {
             words: &mut words,
             marks: &mut marks,
@@ -108,7 +116,7 @@ fn over_pages(
             _ => PagedStore::reopen(runs, bottom.width),
         };
         let played = match opened {
-            Ok(store) => play(heap, *part, store, &mut session),
+            Ok(store) => play(heap, *layers, store, calls, &mut session),
             Err(unfit) => Err(unfit.cause),
         };
         capacity = session.ended(played)?;
@@ -121,10 +129,15 @@ fn over_pages(
     Ok(session.end())
 }
 
-// What piles over a fresh store answer, one part of the calls each.
-pub(crate) fn over(heap: Global, bottom: Bottom, parts: &[Part]) -> Result<String, AllocError> {
+// What layers over a fresh store answer, each to a part of the calls.
+pub(crate) fn over(
+    heap: Global,
+    bottom: Bottom,
+    layers: [Layers; 3],
+    calls: &[Vec<Call>],
+) -> Result<String, AllocError> {
     match bottom.spread {
-        Spread::Rows => over_table(heap, bottom, parts),
-        Spread::Frames(map) => over_pages(heap, bottom, map, parts),
+        Spread::Rows => over_table(heap, bottom, layers, calls),
+        Spread::Frames(map) => over_pages(heap, bottom, map, layers, calls),
     }
 }

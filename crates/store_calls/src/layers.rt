@@ -17,13 +17,6 @@ pub(crate) enum Layers {
     CacheOverQuota(u32, u64),
 }
 
-// Some of the calls, with the layers that they are made through.
-#[derive(Clone, Copy)]
-pub(crate) struct Part<'a> {
-    pub(crate) layers: Layers,
-    pub(crate) calls: &'a [Call],
-}
-
 // Makes calls on a pile, takes its layers off, from the top, and tells the stock of the store below.
 fn on<P: Store, S: Store + Drop, F: FnOnce(P) -> (S, Result<(), Fault>)>(
     mut pile: P,
@@ -51,11 +44,11 @@ fn below<S>(closed: Result<S, Refused<Fault, S>>) -> (S, Result<(), Fault>) {
 // Makes calls on a store through layers, and tells its stock at the end.
 pub(crate) fn play<S: Store + Drop>(
     heap: Global,
-    part: Part,
+    layers: Layers,
     store: S,
+    calls: &[Call],
     session: &mut Session,
 ) -> Result<Stock, Unmade> {
-    let Part { layers, calls } = part;
     match layers {
         Layers::Bare => on(store, calls, session, |store| (store, Ok(()))),
         Layers::Quota(limit) => on(Quota::new(store, limit), calls, session, |quota| {
