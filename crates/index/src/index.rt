@@ -1,4 +1,11 @@
 // The index takes its store by value, and close yields it again.
+ghost use Rattle.std.specs.Prelude.{◌≡◌, IfSome, None, Some, Err};
+ghost use Rattle.store.specs.declared.fault.Refusal.TheVariants.{Down};
+ghost use Rattle.plain.specs.Plain.{find as plain_find, floor as plain_floor};
+ghost use Rattle.held.specs.Held.{kind};
+ghost use Rattle.index.specs.Open.{SameHandle, Queried};
+ghost use Rattle.index.specs.Steps.{StepsAt, Remembers};
+
 use ask::find::{find, floor};
 use balance::marks::Marks;
 use balance::update::{Tree, Updated, refuse};
@@ -71,7 +78,9 @@ impl<K: Key, S: Store> Index<K, S> {
     }
 
     // Yields the store.
-    pub fn close(self) -> S {
+    pub fn close(self) -> S
+        ensures { result ≡ self.store }
+    {
         let Index {
             store,
             header: _,
@@ -84,7 +93,11 @@ impl<K: Key, S: Store> Index<K, S> {
     }
 
     // Keeps in mind that the store is down.
-    fn note(&mut self, fault: &Fault) {
+    fn note(&mut self, fault: &Fault)
+        ensures store { self.new.store ≡ self.old.store }
+        ensures handle { SameHandle self.old self.new }
+        ensures down { fault.now.refusal ≡ Down → self.new.fault ≡ Some fault.now }
+    {
         if fault.refusal == Refusal::Down {
             self.fault = Some(*fault);
         }
@@ -93,11 +106,19 @@ impl<K: Key, S: Store> Index<K, S> {
     // Takes a step on the store, unless it said 'down' before.
     fn step<T, F: FnOnce(&mut S, Tree) -> Result<T, Fault>>(&mut self, step: F) -> Result<T, Fault>
         requires { F.IsAlwaysCallable step }
+        ensures repeats { IfSome self.old.fault (λ f. (result ≡ Err f) × (self.new ≡ self.old)) }
+        ensures steps { self.old.fault ≡ None → StepsAt F.FnOnce step self.old.store self.old.tree result self.new.store }
+        ensures handle { SameHandle self.old self.new }
+        ensures remembers { self.old.fault ≡ None → Remembers result self.new.fault }
     {
         if let Some(fault) = self.fault {
             return Err(fault);
         }
-        step(&mut self.store, self.tree).inspect_err(|fault| self.note(fault))
+        let result = step(&mut self.store, self.tree);
+        if let Err(fault) = &result {
+            self.note(fault);
+        }
+        result
     }
 
     // Makes an update, writes its header, and counts it.
@@ -129,12 +150,20 @@ impl<K: Key, S: Store> Index<K, S> {
     }
 
     // The handle of a key, or nothing.
-    pub fn find(&mut self, key: &K) -> Result<Option<u64>, Fault> {
+    pub fn find(&mut self, key: &K) -> Result<Option<u64>, Fault>
+        ensures repeats { IfSome self.old.fault (λ f. (result ≡ Err f) × (self.new ≡ self.old)) }
+        ensures answers { Queried (kind K.width K.cmp K.packed K.unpacked) S.meaning S.ready (plain_find K.cmp key.now) self.old result self.new }
+        ensures handle { SameHandle self.old self.new }
+    {
         self.step(|store, tree| find(store, tree.header.root, key))
     }
 
     // The pair with the largest key at most this one, or nothing.
-    pub fn floor(&mut self, key: &K) -> Result<Option<Pair<K>>, Fault> {
+    pub fn floor(&mut self, key: &K) -> Result<Option<Pair<K>>, Fault>
+        ensures repeats { IfSome self.old.fault (λ f. (result ≡ Err f) × (self.new ≡ self.old)) }
+        ensures answers { Queried (kind K.width K.cmp K.packed K.unpacked) S.meaning S.ready (plain_floor K.cmp key.now) self.old result self.new }
+        ensures handle { SameHandle self.old self.new }
+    {
         self.step(|store, tree| floor(store, tree.header.root, key))
     }
 }
