@@ -1,5 +1,10 @@
 // A child that grew: its entry corrected, and the child split where it weighs too much.
 ghost use Rattle.std.specs.Prelude.{◌≡◌, ◌+◌, ◌≤◌, IfOk};
+ghost use Rattle.store.specs.Calls.{Leaves};
+ghost use Rattle.copies.specs.Work.{Work};
+ghost use Rattle.held.specs.Held.{kind};
+ghost use Rattle.tree.specs.declared.mark.Mark.TheVariants.{Split};
+ghost use Rattle.grow.specs.Inserts.{TooHeavy, Due, Settled};
 
 use crate::root::take_root;
 use balance::cut::{Halves, halve};
@@ -16,7 +21,9 @@ use store::fault::Fault;
 use tree::mark::Mark;
 
 // Splits a child over its block and a new one; `low` is its smallest key.
-pub fn divide<K: Key, S: Store>(store: &mut S, way: Way, low: K) -> Result<(), Fault> {
+pub fn divide<K: Key, S: Store>(store: &mut S, way: Way, low: K) -> Result<(), Fault>
+    ensures { Leaves S.meaning S.ready (Work (TooHeavy (kind K.width K.cmp K.packed K.unpacked) way low) (λ m _ n. Settled (kind K.width K.cmp K.packed K.unpacked) way m Split n)) store.old result store.new }
+{
     let child = way.child.block;
     let halves: Halves<K> = halve(store, way.child)?;
     let fresh = store.take()?;
@@ -28,7 +35,9 @@ pub fn divide<K: Key, S: Store>(store: &mut S, way: Way, low: K) -> Result<(), F
 }
 
 // Corrects the entry of a child that `key` was put into, and splits the child if it weighs too much.
-pub fn settle<K: Key, S: Store>(store: &mut S, way: Way, key: K) -> Result<Mark, Fault> {
+pub fn settle<K: Key, S: Store>(store: &mut S, way: Way, key: K) -> Result<Mark, Fault>
+    ensures { Leaves S.meaning S.ready (Work (Due (kind K.width K.cmp K.packed K.unpacked) way key) (Settled (kind K.width K.cmp K.packed K.unpacked) way)) store.old result store.new }
+{
     let weight = entry_weight(store, way.parent, way.place)?;
     let low = entry_key::<K, S>(store, way.parent, way.place)?.min(key);
     if weight < limit(way.child.level) {

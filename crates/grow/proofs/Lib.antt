@@ -1,0 +1,3 @@
+pub mod Dividing
+pub mod Looks
+pub mod Settling
