@@ -1,0 +1,5 @@
+pub mod Back
+pub mod Mending
+pub mod Merging
+pub mod Pairing
+pub mod Sharing
