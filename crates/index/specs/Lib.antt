@@ -1,3 +1,4 @@
 pub mod Holds
 pub mod Open
 pub mod Steps
+pub mod Created

@@ -1,9 +1,11 @@
 // The index takes its store by value, and close yields it again.
 ghost use Rattle.std.specs.Prelude.{◌≡◌, IfSome, None, Some, Err};
+ghost use Rattle.store.specs.Calls.{Leaves};
 ghost use Rattle.store.specs.declared.fault.Refusal.TheVariants.{Down};
 ghost use Rattle.plain.specs.Plain.{find as plain_find, floor as plain_floor};
 ghost use Rattle.held.specs.Held.{kind};
 ghost use Rattle.index.specs.Open.{SameHandle, Queried};
+ghost use Rattle.index.specs.Created.{LaysOut, Creates};
 ghost use Rattle.index.specs.Steps.{StepsAt, Remembers};
 
 use ask::find::{find, floor};
@@ -40,7 +42,9 @@ pub struct Created<K, S> {
 }
 
 // Takes a header and an empty leaf, where the store has the right width, no grants, and room for both.
-fn lay_out<K: Key, S: Store>(store: &mut S) -> Result<(u32, Tree), Fault> {
+fn lay_out<K: Key, S: Store>(store: &mut S) -> Result<(u32, Tree), Fault>
+    ensures { Leaves S.meaning S.ready (LaysOut (kind K.width K.cmp K.packed K.unpacked)) store.old result store.new }
+{
     let stock = store.stock()?;
     if stock.width != block_width::<K>() || stock.granted != 0 {
         return Err(refuse(Refusal::Misfit));
@@ -60,7 +64,9 @@ fn lay_out<K: Key, S: Store>(store: &mut S) -> Result<(u32, Tree), Fault> {
 
 impl<K: Key, S: Store> Index<K, S> {
     // Makes an empty index in a store that has no grants. Refused, it hands the store back.
-    pub fn create(mut store: S) -> Result<Created<K, S>, Refused<Fault, S>> {
+    pub fn create(mut store: S) -> Result<Created<K, S>, Refused<Fault, S>>
+        ensures { Creates (kind K.width K.cmp K.packed K.unpacked) S.meaning S.ready store result }
+    {
         match lay_out::<K, S>(&mut store) {
             Ok((header, tree)) => {
                 let index = Index {
