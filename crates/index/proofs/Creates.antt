@@ -54,7 +54,7 @@ unfolding entries
 no_entries φ β z = ap (λ k. upto k (entry_at φ β)) z
 
 -- the first words of a block that was filled from its start
-filled_at : (ws : List ℕ) (n j : ℕ) (β : ℕ → ℕ) → j < n → filled 0 ws n β j ≡ get_or ws j 0
+pub filled_at : (ws : List ℕ) (n j : ℕ) (β : ℕ → ℕ) → j < n → filled 0 ws n β j ≡ get_or ws j 0
 unfolding filled splice
 filled_at ws n j β l =
     let k : j - 0 ≡ j = omega arith in

@@ -38,4 +38,4 @@ module _ {K S : Type 0} (κ : Kind K) (meaning : S → Meaning) (ready : S → T
   queried value i j (Err f) asks keeps h = λ t o.
       let w = asks o.no_fault o.is_ready in
       let d = w.call o.holds.stands.sits in
-      record { refusal = d.refusal; remembered = keeps o.no_fault d.refusal; is_ready = w.ready; is_down = d.is_down }
+      record { refusal = d.refusal; remembered = (keeps o.no_fault).down d.refusal; is_ready = w.ready; is_down = d.is_down }

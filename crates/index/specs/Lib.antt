@@ -2,3 +2,4 @@ pub mod Holds
 pub mod Open
 pub mod Steps
 pub mod Created
+pub mod Updated

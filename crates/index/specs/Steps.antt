@@ -1,5 +1,5 @@
 -- A step that an index takes on its store.
-use Rattle.std.specs.Prelude.{◌≡◌, Option, Result, Ok, Err, Some, None}
+use Rattle.std.specs.Prelude.{◌≡◌, Option, Result, Ok, Err, Some, None, ◌≢◌}
 use Rattle.std.specs.Fn.{Once}
 use denote.Ref.{MutBor}
 use Rattle.store.specs.declared.fault.Fault.{Fault}
@@ -15,6 +15,11 @@ pub record StepsAt {F S R : Type 0} (g : Once F (MutBor S × (Tree × Unit {0}))
   pub leaves : left.now ≡ s'
 
 -- a fault that says 'down' is remembered, and no other
+pub record Noted (f : Fault) (o : Option Fault) : Type 0 where
+  pub down : f.refusal ≡ Down → o ≡ Some f
+  pub other : (f.refusal ≢ Down) → o ≡ None
+
+-- what an index that remembered no fault remembers after an answer
 abbrev pub Remembers : {A : Type 0} → Result A Fault → Option Fault → Type 0
 Remembers (Ok a) o = o ≡ None
-Remembers (Err f) o = f.refusal ≡ Down → o ≡ Some f
+Remembers (Err f) o = Noted f o

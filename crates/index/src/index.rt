@@ -1,11 +1,13 @@
 // The index takes its store by value, and close yields it again.
-ghost use Rattle.std.specs.Prelude.{◌≡◌, IfSome, None, Some, Err};
+ghost use Rattle.std.specs.Prelude.{◌≡◌, ◌≢◌, IfSome, None, Some, Err};
 ghost use Rattle.store.specs.Calls.{Leaves};
 ghost use Rattle.store.specs.declared.fault.Refusal.TheVariants.{Down};
-ghost use Rattle.plain.specs.Plain.{find as plain_find, floor as plain_floor};
+ghost use Rattle.plain.specs.Plain.{find as plain_find, floor as plain_floor, one_more};
+ghost use Rattle.tree.specs.Tree.{adds, drops};
 ghost use Rattle.held.specs.Held.{kind};
 ghost use Rattle.index.specs.Open.{SameHandle, Queried};
 ghost use Rattle.index.specs.Created.{LaysOut, Creates};
+ghost use Rattle.index.specs.Updated.{Rewrites, Updates};
 ghost use Rattle.index.specs.Steps.{StepsAt, Remembers};
 
 use ask::find::{find, floor};
@@ -62,6 +64,35 @@ fn lay_out<K: Key, S: Store>(store: &mut S) -> Result<(u32, Tree), Fault>
     Ok((at, Tree { header }))
 }
 
+// Puts a pair into the tree, and writes the tree's header into its block.
+fn put_in<K: Key, S: Store>(
+    store: &mut S,
+    at: u32,
+    tree: Tree,
+    key: &K,
+    handle: u64,
+) -> Result<Updated, Fault>
+    ensures { Leaves S.meaning S.ready (Rewrites (kind K.width K.cmp K.packed K.unpacked) at tree.header (adds key.now handle)) store.old result store.new }
+{
+    let updated = insert(store, tree, key, handle)?;
+    put_header::<K, S>(store, at, &updated.tree.header)?;
+    Ok(updated)
+}
+
+// Takes a key out of the tree, and writes the tree's header into its block.
+fn take_out<K: Key, S: Store>(
+    store: &mut S,
+    at: u32,
+    tree: Tree,
+    key: &K,
+) -> Result<Updated, Fault>
+    ensures { Leaves S.meaning S.ready (Rewrites (kind K.width K.cmp K.packed K.unpacked) at tree.header (drops key.now)) store.old result store.new }
+{
+    let updated = delete(store, tree, key)?;
+    put_header::<K, S>(store, at, &updated.tree.header)?;
+    Ok(updated)
+}
+
 impl<K: Key, S: Store> Index<K, S> {
     // Makes an empty index in a store that has no grants. Refused, it hands the store back.
     pub fn create(mut store: S) -> Result<Created<K, S>, Refused<Fault, S>>
@@ -103,6 +134,7 @@ impl<K: Key, S: Store> Index<K, S> {
         ensures store { self.new.store ≡ self.old.store }
         ensures handle { SameHandle self.old self.new }
         ensures down { fault.now.refusal ≡ Down → self.new.fault ≡ Some fault.now }
+        ensures other { (fault.now.refusal ≢ Down) → self.new.fault ≡ self.old.fault }
     {
         if fault.refusal == Refusal::Down {
             self.fault = Some(*fault);
@@ -127,32 +159,36 @@ impl<K: Key, S: Store> Index<K, S> {
         result
     }
 
-    // Makes an update, writes its header, and counts it.
-    fn update<F: FnOnce(&mut S, Tree) -> Result<Updated, Fault>>(
-        &mut self,
-        step: F,
-    ) -> Result<Marks, Fault>
-        requires { F.IsAlwaysCallable step }
+    // Keeps what an update left, and counts it.
+    fn keep(&mut self, updated: Updated) -> Marks
+        ensures marks { result ≡ updated.marks }
+        ensures tree { self.new.tree ≡ updated.tree }
+        ensures tally { self.new.tally ≡ one_more self.old.tally }
+        ensures same { (self.new.store ≡ self.old.store) × (self.new.header ≡ self.old.header) × (self.new.fault ≡ self.old.fault) }
     {
-        let header = self.header;
-        let updated = self.step(|store, tree| {
-            let updated = step(store, tree)?;
-            put_header::<K, S>(store, header, &updated.tree.header)?;
-            Ok(updated)
-        })?;
         self.tree = updated.tree;
         self.tally = self.tally.saturating_add(1);
-        Ok(updated.marks)
+        updated.marks
     }
 
     // Puts a pair in: refused where the key is present, then at the key limit, then for want of blocks.
-    pub fn insert(&mut self, key: &K, handle: u64) -> Result<Marks, Fault> {
-        self.update(|store, tree| insert(store, tree, key, handle))
+    pub fn insert(&mut self, key: &K, handle: u64) -> Result<Marks, Fault>
+        ensures repeats { IfSome self.old.fault (λ f. (result ≡ Err f) × (self.new ≡ self.old)) }
+        ensures updates { Updates (kind K.width K.cmp K.packed K.unpacked) S.meaning S.ready (adds key.now handle) self.old result self.new }
+    {
+        let header = self.header;
+        let updated = self.step(|store, tree| put_in(store, header, tree, key, handle))?;
+        Ok(self.keep(updated))
     }
 
     // Takes a key out: refused where it is absent.
-    pub fn delete(&mut self, key: &K) -> Result<Marks, Fault> {
-        self.update(|store, tree| delete(store, tree, key))
+    pub fn delete(&mut self, key: &K) -> Result<Marks, Fault>
+        ensures repeats { IfSome self.old.fault (λ f. (result ≡ Err f) × (self.new ≡ self.old)) }
+        ensures updates { Updates (kind K.width K.cmp K.packed K.unpacked) S.meaning S.ready (drops key.now) self.old result self.new }
+    {
+        let header = self.header;
+        let updated = self.step(|store, tree| take_out(store, header, tree, key))?;
+        Ok(self.keep(updated))
     }
 
     // The handle of a key, or nothing.
