@@ -83,6 +83,10 @@ module _ {K : Type 0} where
   pub fills_none : (s : Lent K) → Fills [] s s
   fills_none s = record { part = record { first = []; rest = []; is = refl; wrote = wrote_none s }; all = inl refl }
 
+  -- where no place is left nothing is to be written
+  pub fills_full : (ps : List (Pair K)) (s : Lent K) → s.written ≡ length s.keys → Fills ps s s
+  fills_full ps s e = record { part = part_none ps s; all = inr e }
+
   -- after the first part others are to come
   pub part_more : (ps qs : List (Pair K)) (s t : Lent K) → Part ps s t → Part (ps ++ qs) s t
   part_more ps qs s t a = record { first = a.first; rest = a.rest ++ qs; is = sym (append_assoc a.first a.rest qs) ∙ ap (λ z. z ++ qs) a.is; wrote = a.wrote }

@@ -98,6 +98,9 @@ fn write_entries<K: Key, S: Store>(
     ensures within { written.new ≤ length keys.old }
     ensures writes { Leaves S.meaning S.ready (Writes (Stored (kind K.width K.cmp K.packed K.unpacked) node.level node.block) (pairs_after (kind K.width K.cmp K.packed K.unpacked) node.level node.block from) (lent keys.old handles.old written.old) (lent keys.new handles.new written.new)) store.old result store.new }
 {
+    if *written == keys.len() {
+        return Ok(());
+    }
     let n = count(store, node.block)?;
     for i in from..n {
         if *written == keys.len() {
@@ -122,6 +125,9 @@ fn write_from<K: Key, S: Store>(
     ensures within { written.new ≤ length keys.old }
     ensures writes { Leaves S.meaning S.ready (Writes (Rooted (kind K.width K.cmp K.packed K.unpacked) node) (pairs_from (kind K.width K.cmp K.packed K.unpacked) node low.now) (lent keys.old handles.old written.old) (lent keys.new handles.new written.new)) store.old result store.new }
 {
+    if *written == keys.len() {
+        return Ok(());
+    }
     if node.level == 0 {
         let from = leaf_keys_before(store, node.block, low, false)?;
         return write_entries(store, node, from, keys, handles, written);

@@ -1,8 +1,8 @@
-use Rattle.std.proofs.Common.{arith}
+use Rattle.std.proofs.Common.{refl, arith}
 use Rattle.copies.proofs.Exits.{raised, lost_later, kin_same}
 use Rattle.nodes.proofs.Rooms.{countable}
 use Rattle.held.specs.Held.{Kind, kind}
-use Rattle.ask.proofs.Writing.{part_none}
+use Rattle.ask.proofs.Writing.{part_none, fills_full}
 use Rattle.ask.proofs.Reporting.{stored_room, writes_kid, going_first, going_at, going_next, going_lost, going_full, going_done}
 use Rattle.ask.proofs.report.+entries.Given as given
 use Rattle.ask.proofs.report.+entries.Goals as goal
@@ -45,9 +45,12 @@ write_entries-loop-i-init g t c = (
 )
 
 pub write_entries-returns-then-written-keys-clause-writes : goal.write_entries-returns-then-written-keys-clause-writes
-write_entries-returns-then-written-keys-clause-writes g t c = λ h.
+write_entries-returns-then-written-keys-clause-writes g t c = λ h. record { call = λ p. (fills_full _ _ c.if-written-keys.true, refl); ready = h }
+
+pub write_entries-returns-then-written-keys-2-clause-writes : goal.write_entries-returns-then-written-keys-2-clause-writes
+write_entries-returns-then-written-keys-2-clause-writes g t c = λ h.
     let i = c.loop-i.invariant.1 h in
-    record { call = λ p. going_full (of g) _ _ _ _ _ _ _ _ _ c.loop-i.auto.i (i.call p) c.if-written-keys.true; ready = i.ready }
+    record { call = λ p. going_full (of g) _ _ _ _ _ _ _ _ _ c.loop-i.auto.i (i.call p) c.if-written-keys-2.true; ready = i.ready }
 
 pub write_entries-returns-in_err-write_entry-clause-writes : goal.write_entries-returns-in_err-write_entry-clause-writes
 write_entries-returns-in_err-write_entry-clause-writes g t c =

@@ -1,7 +1,7 @@
-use Rattle.std.proofs.Common.{arith}
+use Rattle.std.proofs.Common.{refl, arith}
 use Rattle.copies.proofs.Exits.{raised}
 use Rattle.held.specs.Held.{Kind, kind, Lawful}
-use Rattle.ask.proofs.Writing.{part_none}
+use Rattle.ask.proofs.Writing.{part_none, fills_full}
 use Rattle.ask.proofs.Ranks.{rooted_peopled, rooted_leaf}
 use Rattle.ask.proofs.Reporting.{writes_from_leaf, writes_way, lost_way}
 use Rattle.ask.proofs.report.+write_from.Given as given
@@ -12,6 +12,9 @@ of g = kind g.K.Key.width g.K.Ord.cmp g.K.Key.packed g.K.Key.unpacked
 
 abbrev law : (g : given.Over) → Lawful (of g)
 law g = record { ordered = g.met.K.Key.ordered; packing = g.met.K.Key.packing }
+
+pub returns-then-written-keys-clause-writes : goal.returns-then-written-keys-clause-writes
+returns-then-written-keys-clause-writes g t c = λ h. record { call = λ p. (fills_full _ _ c.if-written-keys.true, refl); ready = h }
 
 pub returns-in_err-from-clause-writes : goal.returns-in_err-from-clause-writes
 returns-in_err-from-clause-writes g t c =
