@@ -13,7 +13,8 @@ use Rattle.nodes.specs.declared.node.Node.{Node}
 use Rattle.nodes.specs.Places.{Form}
 use Rattle.nodes.specs.Nodes.{Keyed, entry_at, entries}
 use Rattle.nodes.specs.Finds.{Found}
-use Rattle.plain.specs.Plain.{Sorted}
+use Rattle.plain.specs.Plain.{Sorted, rank, up_to, within}
+use Rattle.plain.proofs.Floors.{counted, within_none}
 use Rattle.plain.specs.declared.pair.Pair.{Pair}
 use Rattle.plain.proofs.Alls.{all_map, all_back, how_many_append, how_many_none, how_many_all}
 use Rattle.plain.proofs.Pairs.{sorted_across}
@@ -43,7 +44,7 @@ pub begun_weighable : (φ : Form) (b l n i : ℕ) (m u : Meaning) → i < n → 
 begun_weighable φ b l n i m u h p e = still_weighable φ b l (m.words b 1) i m u e (omega (arith, p.within)) (record { mild = p.mild; count = refl })
 
 -- how many of a list pass is at most how many they are
-how_many_most : {X : Type 0} (p : X → Bool) (xs : List X) → how_many p xs ≤ length xs
+pub how_many_most : {X : Type 0} (p : X → Bool) (xs : List X) → how_many p xs ≤ length xs
 how_many_most p [] = omega arith
 how_many_most p (x ∷ xs) = go (p x) (how_many_most p xs)
   where
@@ -129,7 +130,7 @@ module _ {K : Type 0} (κ : Kind K) (law : Lawful κ) where
       record { value_is = here ∙ ap (λ z. passing κ.order z k ps) (sym off) ∙ ap (passing κ.order equal k) (sym (leaf_pairs κ m.words b)); same = y.same ∙ f.same }
 
   -- what the children before the way weigh, and what counts in the child
-  passing_step : (m : Meaning) (l b : ℕ) (k : K) (w : Way) (equal : Bool) → Sits κ index_unit m (suc l) b → Child κ index_unit m l b k w →
+  pub passing_step : (m : Meaning) (l b : ℕ) (k : K) (w : Way) (equal : Bool) → Sits κ index_unit m (suc l) b → Child κ index_unit m l b k w →
       passing κ.order equal k (pairs_in κ m.words (suc l) b) ≡ total (weight K (suc l)) (take w.place (node κ m.words (suc l) b)) + passing κ.order equal k (pairs_in κ m.words l w.child.block)
   passing_step m l b k w true s c =
       let before = total (weight K (suc l)) (take w.place (node κ m.words (suc l) b)) in
@@ -161,34 +162,41 @@ module _ {K : Type 0} (κ : Kind K) (law : Lawful κ) where
   )
 
   -- a node above the leaves, named by the level below
-  above : (m : Meaning) (b : Node) → (b.level ≡ 0 → ⊥) → Lowly κ b m → Lowly κ (record { block = b.block; level = suc (b.level - 1) }) m
-  above m b h p = let more : b.level ≡ suc (b.level - 1) = omega arith in subst (λ j. Lowly κ (record { block = b.block; level = j }) m) more p
+  pub above_leaf : (m : Meaning) (b : Node) → (b.level ≡ 0 → ⊥) → Rooted κ b m → Sits κ index_unit m (suc (b.level - 1)) b.block
+  above_leaf m b h s = let more : b.level ≡ suc (b.level - 1) = omega arith in subst (λ j. Sits κ index_unit m j b.block) more s
 
-  pub lowly_peopled : (m : Meaning) (b : Node) → (b.level ≡ 0 → ⊥) → Lowly κ b m → Peopled κ.form b.block m
-  lowly_peopled m b h p = peopled κ index_unit m (b.level - 1) b.block (above m b h p).sits
+  pub rooted_peopled : (m : Meaning) (b : Node) → (b.level ≡ 0 → ⊥) → Rooted κ b m → Peopled κ.form b.block m
+  rooted_peopled m b h s = peopled κ index_unit m (b.level - 1) b.block (above_leaf m b h s)
 
-  pub lowly_leaf : (m : Meaning) (b : Node) → b.level ≡ 0 → Lowly κ b m → Sits κ index_unit m 0 b.block
-  lowly_leaf m b h p = subst (λ j. Sits κ index_unit m j b.block) h p.sits
+  pub rooted_leaf : (m : Meaning) (b : Node) → b.level ≡ 0 → Rooted κ b m → Sits κ index_unit m 0 b.block
+  rooted_leaf m b h s = subst (λ j. Sits κ index_unit m j b.block) h s
 
   -- a leaf named as a node
   pub leaf_counts : (m n : Meaning) (b : Node) (k : K) (equal : Bool) (r s : ℕ) → b.level ≡ 0 → s ≡ r → Tells (λ z. passing κ.order equal k (pairs_in κ z.words 0 b.block)) m r n → Tells (λ z. passing κ.order equal k (pairs_below κ b z)) m s n
   leaf_counts m n b k equal r s h e t = record { value_is = e ∙ t.value_is ∙ ap (λ j. passing κ.order equal k (pairs_in κ m.words j b.block)) (sym h); same = t.same }
 
   -- what a way leads to from such a node, after the reads that found it
-  module _ (m u : Meaning) (b : Node) (k : K) (w : Way) (h : b.level ≡ 0 → ⊥) (one : w.child.level ≡ b.level - 1) (p : Lowly κ b m) (led : Led κ.form κ.order κ.unpacked b.block k m w u) where
+  module _ (m u : Meaning) (b : Node) (k : K) (w : Way) (h : b.level ≡ 0 → ⊥) (s : Rooted κ b m) (led : Led κ.form κ.order κ.unpacked b.block k m w u) where
     pub way_child : Child κ index_unit m (b.level - 1) b.block k w
-    way_child = child κ law index_unit index_units m u (b.level - 1) b.block k w (above m b h p).sits led
+    way_child = child κ law index_unit index_units m u (b.level - 1) b.block k w (above_leaf m b h s) led
+
+    pub child_rooted : w.child.level ≡ b.level - 1 → Rooted κ w.child m
+    child_rooted one = subst (λ j. Rooted κ (record { block = w.child.block; level = j }) m) (sym one) way_child.sits
+
+  module _ (m u : Meaning) (b : Node) (k : K) (w : Way) (h : b.level ≡ 0 → ⊥) (one : w.child.level ≡ b.level - 1) (p : Lowly κ b m) (led : Led κ.form κ.order κ.unpacked b.block k m w u) where
+    c : Child κ index_unit m (b.level - 1) b.block k w
+    c = way_child m u b k w h p.sits led
 
     -- the child keeps the rules as well
     pub child_lowly : Lowly κ w.child m
-    child_lowly = record { sits = subst (λ j. Rooted κ (record { block = w.child.block; level = j }) m) (sym one) way_child.sits; low = omega (arith, p.low) }
+    child_lowly = record { sits = child_rooted m u b k w h p.sits led one; low = omega (arith, p.low) }
 
     -- the weights before it can be added
     pub way_begun : Begun κ.form b.block b.level w.place u
     way_begun =
         let s = p.sits in
         let mild : Mild κ.form b.block b.level m = record { node = node_of κ index_unit m b.level b.block s; each = λ i. omega (arith, get_total (weights κ.form b.level (m.words b.block)) i, sum_is κ m b.level b.block s.whole, s.light, limit_small b.level p.low) } in
-        subst (Begun κ.form b.block b.level w.place) (sym led.found.same) (record { mild = mild; within = omega (arith, way_child.within) })
+        subst (Begun κ.form b.block b.level w.place) (sym led.found.same) (record { mild = mild; within = omega (arith, c.within) })
 
     -- the keys before the way, and those in the child
     pub counts_on : (v n : Meaning) (equal : Bool) (passed below r : ℕ) → Passed κ.form b.block b.level w.place u passed v → Tells (λ z. passing κ.order equal k (pairs_below κ w.child z)) v below n → (below ≤ 2 ^ 40 → r ≡ passed + below) →
@@ -199,8 +207,20 @@ module _ {K : Type 0} (κ : Kind K) (law : Lawful κ) where
         let back : v ≡ m = x.same ∙ led.found.same in
         let few : below ≤ 2 ^ 40 = omega (arith, y.value_is, ap (λ z. passing κ.order equal k (pairs_below κ w.child z)) back, passing_small m w.child k equal child_lowly) in
         let before : passed ≡ total (weight K (suc l)) (take w.place (node κ m.words (suc l) b.block)) =
-        x.value ∙ ap (λ z. sum (take w.place (weights κ.form b.level (z.words b.block)))) led.found.same ∙ ap (λ j. sum (take w.place (weights κ.form j (m.words b.block)))) more ∙ passed_is m (suc l) b.block w.place (above m b h p).sits in
+        x.value ∙ ap (λ z. sum (take w.place (weights κ.form b.level (z.words b.block)))) led.found.same ∙ ap (λ j. sum (take w.place (weights κ.form j (m.words b.block)))) more ∙ passed_is m (suc l) b.block w.place (above_leaf m b h p.sits) in
         let under : below ≡ passing κ.order equal k (pairs_in κ m.words l w.child.block) =
         y.value_is ∙ ap (λ z. passing κ.order equal k (pairs_below κ w.child z)) back ∙ ap (λ j. passing κ.order equal k (pairs_in κ m.words j w.child.block)) one in
-        let here : r ≡ passing κ.order equal k (pairs_in κ m.words (suc l) b.block) = omega (arith, sum_is few, before, under, passing_step m l b.block k w equal (above m b h p).sits way_child) in
+        let here : r ≡ passing κ.order equal k (pairs_in κ m.words (suc l) b.block) = omega (arith, sum_is few, before, under, passing_step m l b.block k w equal (above_leaf m b h p.sits) c) in
         record { value_is = here ∙ ap (λ j. passing κ.order equal k (pairs_in κ m.words j b.block)) (sym more); same = y.same ∙ back }
+
+  -- the keys from low to high, counted by the keys below low and those up to high
+  pub within_told : (m u n : Meaning) (b : Node) (low high : K) (below upto r : ℕ) → Lowly κ b m → Tells (λ z. rank κ.order low (pairs_below κ b z)) m below u → Tells (λ z. up_to κ.order high (pairs_below κ b z)) u upto n → r ≡ upto - below →
+      Tells (λ z. length (within κ.order low high (pairs_below κ b z))) m r n
+  within_told m u n b low high below upto r p x y e = record {
+    value_is = omega (arith, e, x.value_is, y.value_is, ap (λ z. up_to κ.order high (pairs_below κ b z)) x.same, counted law.ordered low high (pairs_below κ b m) p.sits.ascending);
+    same = y.same ∙ x.same;
+  }
+
+  -- there are none where low exceeds high
+  pub within_zero : (m : Meaning) (b : Node) (low high : K) → κ.order low high ≡ Greater → Tells (λ z. length (within κ.order low high (pairs_below κ b z))) m 0 m
+  within_zero m b low high e = record { value_is = sym (ap length (within_none law.ordered low high (pairs_below κ b m) e)); same = refl }

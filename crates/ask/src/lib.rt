@@ -3,3 +3,4 @@
 
 pub mod find;
 pub mod rank;
+pub mod report;

@@ -31,7 +31,7 @@ fn weight_before<K: Key, S: Store>(store: &mut S, node: Node, n: u32) -> Result<
 }
 
 // How many keys of a leaf are below `key`, or at most `key` where an equal one counts.
-pub fn leaf_keys_before<K: Key, S: Store>(
+pub(crate) fn leaf_keys_before<K: Key, S: Store>(
     store: &mut S,
     block: u32,
     key: &K,
