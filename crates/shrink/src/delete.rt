@@ -1,4 +1,9 @@
 // A pair taken out of the tree.
+ghost use Rattle.store.specs.Calls.{Leaves};
+ghost use Rattle.copies.specs.Work.{Work};
+ghost use Rattle.held.specs.Held.{kind};
+ghost use Rattle.shrink.specs.Deletes.{Stale, Mended};
+
 use crate::merge::mend;
 use ask::find::find;
 use balance::down::way_down;
@@ -19,7 +24,9 @@ use store::fault::{Fault, Refusal};
 use tree::mark::Mark;
 
 // Corrects the entry of a child that lost a key, and merges the child if it weighs too little.
-fn settle<K: Key, S: Store>(store: &mut S, way: Way) -> Result<Mark, Fault> {
+fn settle<K: Key, S: Store>(store: &mut S, way: Way) -> Result<Mark, Fault>
+    ensures { Leaves S.meaning S.ready (Work (Stale (kind K.width K.cmp K.packed K.unpacked) way) (Mended (kind K.width K.cmp K.packed K.unpacked) way)) store.old result store.new }
+{
     let weight = entry_weight(store, way.parent, way.place)?.saturating_sub(1);
     let low: K = entry_key(store, way.child.block, 0)?;
     let entry = Entry::of_child(weight, low, way.child.block);
