@@ -2,7 +2,7 @@
 ghost use Rattle.store.specs.Calls.{Leaves};
 ghost use Rattle.copies.specs.Work.{Work};
 ghost use Rattle.held.specs.Held.{kind};
-ghost use Rattle.shrink.specs.Deletes.{Stale, Mended};
+ghost use Rattle.shrink.specs.Deletes.{Stale, Mended, Holding, Shrank};
 
 use crate::merge::mend;
 use ask::find::find;
@@ -38,7 +38,9 @@ fn settle<K: Key, S: Store>(store: &mut S, way: Way) -> Result<Mark, Fault>
 }
 
 // Takes a key, which is there, out below a node, whose own weight its parent looks at.
-pub fn delete_below<K: Key, S: Store>(store: &mut S, node: Node, key: &K) -> Result<Marks, Fault> {
+pub fn delete_below<K: Key, S: Store>(store: &mut S, node: Node, key: &K) -> Result<Marks, Fault>
+    ensures { Leaves S.meaning S.ready (Work (Holding (kind K.width K.cmp K.packed K.unpacked) node key.now) (Shrank (kind K.width K.cmp K.packed K.unpacked) node key.now)) store.old result store.new }
+{
     if node.level == 0 {
         let Some(last) = keys_up_to(store, node.block, key)?.checked_sub(1) else {
             return Err(damaged(node.block));
