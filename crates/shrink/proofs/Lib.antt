@@ -1,5 +1,9 @@
 pub mod Back
+pub mod Cutting
+pub mod Fusing
 pub mod Mending
 pub mod Merging
 pub mod Pairing
+pub mod Settling
 pub mod Sharing
+pub mod Shrinking

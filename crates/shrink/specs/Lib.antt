@@ -1,1 +1,2 @@
+pub mod Deletes
 pub mod Merges

@@ -1,4 +1,9 @@
 // A pair taken out of the tree.
+ghost use Rattle.store.specs.Calls.{Leaves};
+ghost use Rattle.copies.specs.Work.{Work};
+ghost use Rattle.held.specs.Held.{kind};
+ghost use Rattle.shrink.specs.Deletes.{Stale, Mended, Holding, Shrank};
+
 use crate::merge::mend;
 use ask::find::find;
 use balance::down::way_down;
@@ -19,7 +24,9 @@ use store::fault::{Fault, Refusal};
 use tree::mark::Mark;
 
 // Corrects the entry of a child that lost a key, and merges the child if it weighs too little.
-fn settle<K: Key, S: Store>(store: &mut S, way: Way) -> Result<Mark, Fault> {
+fn settle<K: Key, S: Store>(store: &mut S, way: Way) -> Result<Mark, Fault>
+    ensures { Leaves S.meaning S.ready (Work (Stale (kind K.width K.cmp K.packed K.unpacked) way) (Mended (kind K.width K.cmp K.packed K.unpacked) way)) store.old result store.new }
+{
     let weight = entry_weight(store, way.parent, way.place)?.saturating_sub(1);
     let low: K = entry_key(store, way.child.block, 0)?;
     let entry = Entry::of_child(weight, low, way.child.block);
@@ -31,7 +38,9 @@ fn settle<K: Key, S: Store>(store: &mut S, way: Way) -> Result<Mark, Fault> {
 }
 
 // Takes a key, which is there, out below a node, whose own weight its parent looks at.
-pub fn delete_below<K: Key, S: Store>(store: &mut S, node: Node, key: &K) -> Result<Marks, Fault> {
+pub fn delete_below<K: Key, S: Store>(store: &mut S, node: Node, key: &K) -> Result<Marks, Fault>
+    ensures { Leaves S.meaning S.ready (Work (Holding (kind K.width K.cmp K.packed K.unpacked) node key.now) (Shrank (kind K.width K.cmp K.packed K.unpacked) node key.now)) store.old result store.new }
+{
     if node.level == 0 {
         let Some(last) = keys_up_to(store, node.block, key)?.checked_sub(1) else {
             return Err(damaged(node.block));
