@@ -1,4 +1,9 @@
 // A pair put into the tree.
+ghost use Rattle.store.specs.Calls.{Leaves};
+ghost use Rattle.copies.specs.Work.{Work};
+ghost use Rattle.held.specs.Held.{kind};
+ghost use Rattle.grow.specs.Inserts.{Roomy, Grew};
+
 use crate::split::{raise, settle};
 use crate::survey::survey;
 use balance::down::way_down;
@@ -21,7 +26,9 @@ pub fn insert_below<K: Key, S: Store>(
     node: Node,
     key: &K,
     handle: u64,
-) -> Result<Marks, Fault> {
+) -> Result<Marks, Fault>
+    ensures { Leaves S.meaning S.ready (Work (Roomy (kind K.width K.cmp K.packed K.unpacked) node key.now) (Grew (kind K.width K.cmp K.packed K.unpacked) node key.now handle)) store.old result store.new }
+{
     if node.level == 0 {
         let place = keys_up_to(store, node.block, key)?;
         let entry = Entry {
