@@ -3,3 +3,4 @@ pub mod Open
 pub mod Steps
 pub mod Created
 pub mod Updated
+pub mod Reported

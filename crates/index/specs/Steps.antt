@@ -4,6 +4,7 @@ use Rattle.std.specs.Fn.{Once}
 use denote.Ref.{MutBor}
 use Rattle.store.specs.declared.fault.Fault.{Fault}
 use Rattle.store.specs.declared.fault.Refusal.TheVariants.{Down}
+use Rattle.ask.specs.declared.report.Stopped.{Stopped}
 use Rattle.balance.specs.declared.update.Tree.{Tree}
 
 -- at a `&mut` to the store s and the tree t, the step f may give r and leave s'
@@ -23,3 +24,8 @@ pub record Noted (f : Fault) (o : Option Fault) : Type 0 where
 abbrev pub Remembers : {A : Type 0} → Result A Fault → Option Fault → Type 0
 Remembers (Ok a) o = o ≡ None
 Remembers (Err f) o = Noted f o
+
+-- the same of a report, whose 'down' is remembered
+abbrev pub Recalls : {A : Type 0} → Result A Stopped → Option Fault → Type 0
+Recalls (Ok a) o = o ≡ None
+Recalls (Err e) o = e.fault.refusal ≡ Down → o ≡ Some e.fault

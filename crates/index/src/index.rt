@@ -1,16 +1,20 @@
 // The index takes its store by value, and close yields it again.
-ghost use Rattle.std.specs.Prelude.{◌≡◌, ◌≢◌, IfSome, None, Some, Err};
+ghost use Rattle.std.specs.Prelude.{◌≡◌, ◌≢◌, IfSome, None, Some, Ok, Err, length};
 ghost use Rattle.store.specs.Calls.{Leaves};
-ghost use Rattle.store.specs.declared.fault.Refusal.TheVariants.{Down};
-ghost use Rattle.plain.specs.Plain.{find as plain_find, floor as plain_floor, one_more};
+ghost use Rattle.store.specs.declared.fault.Refusal.TheVariants.{Down, Uneven};
+ghost use Rattle.plain.specs.Plain.{find as plain_find, floor as plain_floor, rank as plain_rank, one_more};
 ghost use Rattle.tree.specs.Tree.{adds, drops};
 ghost use Rattle.held.specs.Held.{kind};
 ghost use Rattle.index.specs.Open.{SameHandle, Queried};
 ghost use Rattle.index.specs.Created.{LaysOut, Creates};
+ghost use Rattle.balance.specs.Updates.{own_refusal};
+ghost use Rattle.index.specs.Reported.{Reports};
 ghost use Rattle.index.specs.Updated.{Rewrites, Updates};
 ghost use Rattle.index.specs.Steps.{StepsAt, Remembers};
 
 use ask::find::{find, floor};
+use ask::rank::rank;
+use ask::report::{Stopped, report};
 use balance::marks::Marks;
 use balance::update::{Tree, Updated, refuse};
 use grow::insert::insert;
@@ -207,5 +211,49 @@ impl<K: Key, S: Store> Index<K, S> {
         ensures handle { SameHandle self.old self.new }
     {
         self.step(|store, tree| floor(store, tree.header.root, key))
+    }
+
+    // How many keys are below this one.
+    pub fn rank(&mut self, key: &K) -> Result<u64, Fault>
+        ensures repeats { IfSome self.old.fault (λ f. (result ≡ Err f) × (self.new ≡ self.old)) }
+        ensures answers { Queried (kind K.width K.cmp K.packed K.unpacked) S.meaning S.ready (plain_rank K.cmp key.now) self.old result self.new }
+        ensures handle { SameHandle self.old self.new }
+    {
+        self.step(|store, tree| rank(store, tree.header.root, key))
+    }
+
+    // Writes the pairs from `low` to `high`, as many as fit, and says how many there are.
+    pub fn report(
+        &mut self,
+        low: &K,
+        high: &K,
+        keys: &mut [K],
+        handles: &mut [u64],
+    ) -> Result<u64, Stopped>
+        ensures repeats { IfSome self.old.fault (λ f. (result ≡ Err (record { fault = f; written = 0 })) × (self.new ≡ self.old) × (keys.new ≡ keys.old) × (handles.new ≡ handles.old)) }
+        ensures uneven { self.old.fault ≡ None → length keys.old ≢ length handles.old → (result ≡ Err (record { fault = own_refusal Uneven; written = 0 })) × (self.new ≡ self.old) × (keys.new ≡ keys.old) × (handles.new ≡ handles.old) }
+        ensures reports { length keys.old ≡ length handles.old → Reports (kind K.width K.cmp K.packed K.unpacked) S.meaning S.ready low.now high.now keys.old handles.old keys.new handles.new self.old result self.new }
+        ensures handle { SameHandle self.old self.new }
+    {
+        if let Some(fault) = self.fault {
+            return Err(Stopped::from(fault));
+        }
+        let root = self.tree.header.root;
+        let result = report(&mut self.store, root, low, high, keys, handles);
+        if let Err(stopped) = &result {
+            self.note(&stopped.fault);
+        }
+        result
+    }
+
+    // How many updates were accepted since the index was made.
+    pub fn tally(&self) -> Result<u64, Fault>
+        ensures repeats { IfSome self.now.fault (λ f. result ≡ Err f) }
+        ensures value { self.now.fault ≡ None → result ≡ Ok self.now.tally }
+    {
+        match self.fault {
+            Some(fault) => Err(fault),
+            None => Ok(self.tally),
+        }
     }
 }
