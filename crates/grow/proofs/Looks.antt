@@ -27,11 +27,11 @@ one_for true = refl
 one_for false = refl
 
 -- what an answer of none, or of some, tells of the test
-none_or : (b : Bool) (n : ℕ) → None ≡ cond b None (Some n) → b ≡ true
+pub none_or : (b : Bool) (n : ℕ) → None ≡ cond b None (Some n) → b ≡ true
 none_or true n e = refl
 none_or false n e = absurd (true≢false (ap is_some (sym e)))
 
-some_or : (b : Bool) (n f : ℕ) → Some f ≡ cond b None (Some n) → (b ≡ false) × (f ≡ n)
+pub some_or : (b : Bool) (n f : ℕ) → Some f ≡ cond b None (Some n) → (b ≡ false) × (f ≡ n)
 some_or true n f e = absurd (true≢false (ap is_some e))
 some_or false n f e = (refl, ap (λ z. unwrap_or z 0) e)
 

@@ -4,7 +4,7 @@ ghost use Rattle.store.specs.Calls.{Leaves};
 ghost use Rattle.copies.specs.Work.{Work};
 ghost use Rattle.held.specs.Held.{kind};
 ghost use Rattle.tree.specs.declared.mark.Mark.TheVariants.{Split};
-ghost use Rattle.grow.specs.Inserts.{TooHeavy, Due, Settled};
+ghost use Rattle.grow.specs.Inserts.{TooHeavy, Due, Settled, Tall, Raised};
 
 use crate::root::take_root;
 use balance::cut::{Halves, halve};
@@ -54,6 +54,7 @@ pub fn raise<K: Key, S: Store>(store: &mut S, root: Node, keys: u64) -> Result<N
     requires { root.level ≤ 4 }
     ensures block { IfOk result (λ top. (1 ≤ top.block) × (top.block ≤ 1048575)) }
     ensures level { IfOk result (λ top. top.level ≡ root.level + 1) }
+    ensures raises { Leaves S.meaning S.ready (Work (Tall (kind K.width K.cmp K.packed K.unpacked) root keys) (Raised (kind K.width K.cmp K.packed K.unpacked) root)) store.old result store.new }
 {
     let low: K = entry_key(store, root.block, 0)?;
     let top = take_root(store)?;
