@@ -1,6 +1,8 @@
 pub mod Back
 pub mod Cutting
+pub mod Deleting
 pub mod Fusing
+pub mod Lowering
 pub mod Mending
 pub mod Merging
 pub mod Pairing

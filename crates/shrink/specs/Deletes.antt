@@ -1,19 +1,22 @@
 -- What the steps of a deletion promise.
-use Rattle.std.specs.Prelude.{◌≡◌, ℕ, suc, ◌+◌, ◌*◌, ◌<◌, ◌≤◌, true, cond, List, [], take, drop, is_some}
+use Rattle.std.specs.Prelude.{◌≡◌, ℕ, suc, ◌+◌, ◌*◌, ◌<◌, ◌≤◌, true, cond, List, [], take, drop, is_some, Option}
 use Rattle.std.specs.List.{AllByRecursion}
 use Rattle.store.specs.Meaning.{Meaning, limit}
 use Rattle.nodes.specs.declared.node.Node.{Node}
+use Rattle.nodes.specs.declared.header.Header.{Header}
 use Rattle.nodes.specs.Nodes.{Node as IsNode, entry_at, entries}
+use Rattle.plain.specs.Plain.{refuses_delete}
 use Rattle.tree.specs.declared.mark.Mark.{Mark}
 use Rattle.tree.specs.declared.mark.Mark.TheVariants.{Nothing}
 use Rattle.tree.specs.Lists.{onto}
-use Rattle.tree.specs.Tree.{index_shape, index_unit, Item, weight, Fit, under, fused_mark, mended, del, del_mark}
+use Rattle.tree.specs.Tree.{index_shape, index_unit, Item, weight, Fit, under, size, fused_mark, mended, del, del_mark, lowered, content}
 use Rattle.tree.specs.Queries.{find_down}
 use Rattle.balance.specs.declared.way.Way.{Way}
+use Rattle.balance.specs.declared.update.Tree.{Tree}
 use Rattle.balance.specs.declared.marks.Marks.{Marks}
 use Rattle.balance.specs.Marks.{mark_at}
 use Rattle.held.specs.Held.{Kind, node, feet, Right, Whole, Owned, Step}
-use Rattle.held.specs.Roots.{Rooted}
+use Rattle.held.specs.Roots.{Rooted, tree_of}
 
 module _ {K : Type 0} (κ : Kind K) where
   -- the child that a way leads to
@@ -67,3 +70,23 @@ module _ {K : Type 0} (κ : Kind K) where
     pub whole : Whole κ n.words b.level b.block
     pub step : Step m n (feet κ m.words b.level b.block) (feet κ n.words b.level b.block)
     pub marked : (j : ℕ) → mark_at marks j ≡ del_mark κ.order index_unit j b.level k (node κ m.words b.level b.block)
+
+  -- a root that lost a key: its children are rebalanced, and the header's keys are what it weighs
+  pub record Topped (h : Header) (m : Meaning) : Type 0 where
+    pub room : IsNode κ.form h.root.block m
+    pub whole : Whole κ m.words h.root.level h.root.block
+    pub owned : Owned m (feet κ m.words h.root.level h.root.block)
+    pub fits : AllByRecursion (Fit K index_unit h.root.level) (node κ m.words h.root.level h.root.block)
+    pub keys : h.keys ≡ size K (tree_of κ m.words h)
+    pub low : h.root.level ≤ index_shape.top
+
+  -- with one child left it gave way to it
+  pub record Lowered (h : Header) (m : Meaning) (r : Tree) (n : Meaning) : Type 0 where
+    pub tree_is : tree_of κ n.words r.header ≡ lowered K h.root.level (node κ m.words h.root.level h.root.block)
+    pub whole : Whole κ n.words r.header.root.level r.header.root.block
+    pub step : Step m n (feet κ m.words h.root.level h.root.block) (feet κ n.words r.header.root.level r.header.root.block)
+    pub keys : r.header.keys ≡ size K (tree_of κ n.words r.header)
+
+  -- why a deletion of k is refused
+  abbrev pub refusal : Header → K → Meaning → Option ℕ
+  refusal h k m = refuses_delete κ.order k (content K (tree_of κ m.words h))

@@ -1,8 +1,11 @@
 // A pair taken out of the tree.
 ghost use Rattle.store.specs.Calls.{Leaves};
 ghost use Rattle.copies.specs.Work.{Work};
+ghost use Rattle.tree.specs.Tree.{drops};
+ghost use Rattle.balance.specs.Updates.{Decided};
 ghost use Rattle.held.specs.Held.{kind};
-ghost use Rattle.shrink.specs.Deletes.{Stale, Mended, Holding, Shrank};
+ghost use Rattle.held.specs.Roots.{Stands, Becomes};
+ghost use Rattle.shrink.specs.Deletes.{Stale, Mended, Holding, Shrank, Topped, Lowered, refusal};
 
 use crate::merge::mend;
 use ask::find::find;
@@ -55,7 +58,9 @@ pub fn delete_below<K: Key, S: Store>(store: &mut S, node: Node, key: &K) -> Res
 }
 
 // Gives back an inner root that has one child left, which is then the root.
-fn lower<K: Key, S: Store>(store: &mut S, tree: Tree) -> Result<Tree, Fault> {
+fn lower<K: Key, S: Store>(store: &mut S, tree: Tree) -> Result<Tree, Fault>
+    ensures { Leaves S.meaning S.ready (Work (Topped (kind K.width K.cmp K.packed K.unpacked) tree.header) (Lowered (kind K.width K.cmp K.packed K.unpacked) tree.header)) store.old result store.new }
+{
     let Header { root, keys } = tree.header;
     if root.level == 0 || count(store, root.block)? != 1 {
         return Ok(tree);
@@ -75,7 +80,9 @@ fn lower<K: Key, S: Store>(store: &mut S, tree: Tree) -> Result<Tree, Fault> {
 }
 
 // Takes a key out; refused where it is absent.
-pub fn delete<K: Key, S: Store>(store: &mut S, tree: Tree, key: &K) -> Result<Updated, Fault> {
+pub fn delete<K: Key, S: Store>(store: &mut S, tree: Tree, key: &K) -> Result<Updated, Fault>
+    ensures { Leaves S.meaning S.ready (Decided (Stands (kind K.width K.cmp K.packed K.unpacked) tree.header) (refusal (kind K.width K.cmp K.packed K.unpacked) tree.header key.now) (Becomes (kind K.width K.cmp K.packed K.unpacked) tree.header (drops key.now))) store.old result store.new }
+{
     let Header { root, keys } = tree.header;
     if find(store, root, key)?.is_none() {
         return Err(refuse(Refusal::Absent));
