@@ -54,14 +54,14 @@ module _ {K : Type 0} (κ : Kind K) where
       ap (take 1) (drop_more x i y (omega (arith, node_length κ ω l b))) ∙ ap (λ z. z ∷ []) (item_at κ ω l b i y h)
 
   -- the pair of an entry that was read, written in the next place
-  pub wrote_pair : (m v n : Meaning) (b i : ℕ) (key : K) (h : ℕ) (s : Lent K) → StoredAt κ 0 b i m → Keyed κ.form κ.unpacked b i m key v → Leads κ.form b i v h n →
-      Fills (pairs_at κ 0 b i m) s (lent (slice_set s.keys s.written key) (slice_set s.handles s.written h) (s.written + 1)) × (n ≡ m)
-  wrote_pair m v n b i key h s p x y =
+  pub wrote_pair : (m v n : Meaning) (b i : ℕ) (key : K) (h at h' to : ℕ) (s : Lent K) → at ≡ s.written → h' ≡ h → to ≡ s.written + 1 → StoredAt κ 0 b i m → Keyed κ.form κ.unpacked b i m key v → Leads κ.form b i v h n →
+      Fills (pairs_at κ 0 b i m) s (lent (slice_set s.keys s.written key) (slice_set s.handles at h') to) × (n ≡ m)
+  wrote_pair m v n b i key h at h' to s e d f p x y =
       let r = read_pair κ m m v n b i key h refl x y in
-      let t = lent (slice_set s.keys s.written key) (slice_set s.handles s.written h) (s.written + 1) in
+      let t = lent (slice_set s.keys s.written key) (slice_set s.handles at h') to in
       let q : Pair K = record { key = key; handle = h } in
       let alone : q ∷ [] ≡ pairs_at κ 0 b i m = ap (λ z. z ∷ []) r.1 ∙ ap (joined (pairs K 0)) (sym (item_alone m.words 0 b i p.has)) in
-      let w : Wrote (q ∷ []) s t = record { keys = laid_one s.written key s.keys; handles = laid_one s.written h s.handles; written = refl } in
+      let w : Wrote (q ∷ []) s t = record { keys = laid_one s.written key s.keys; handles = (λ j. slice_set s.handles (e j) (d j)) ∙ laid_one s.written h s.handles; written = f } in
       (subst (λ z. Fills z s t) alone (record { part = record { first = q ∷ []; rest = []; is = refl; wrote = w }; all = inl refl }), r.0)
 
   -- the node that an entry names
@@ -215,17 +215,17 @@ module _ {K : Type 0} (κ : Kind K) (law : Lawful κ) where
         (subst (λ z. Part z s t) from_step some, lost_later (kin_same same) d.1)
 
   -- that child was written, and the later ones follow
-  pub writes_way : (m u v n : Meaning) (b : Node) (low : K) (w : Way) (s t x : Lent K) (r : Result (Unit {0}) Fault) → (b.level ≡ 0 → ⊥) → w.child.level ≡ b.level - 1 → x.written ≤ length x.keys →
-      (Rooted κ b m → Led κ.form κ.order κ.unpacked b.block low m w u) → (Rooted κ w.child u → Fills (pairs_from κ w.child low u) s t × (v ≡ u)) → Writes (Stored κ b.level b.block) (pairs_after κ b.level b.block (w.place + 1)) t x v r n →
+  pub writes_way : (m u v n : Meaning) (b : Node) (low : K) (w : Way) (next : ℕ) (s t x : Lent K) (r : Result (Unit {0}) Fault) → (b.level ≡ 0 → ⊥) → w.child.level ≡ b.level - 1 → next ≡ w.place + 1 → x.written ≤ length x.keys →
+      (Rooted κ b m → Led κ.form κ.order κ.unpacked b.block low m w u) → (Rooted κ w.child u → Fills (pairs_from κ w.child low u) s t × (v ≡ u)) → Writes (Stored κ b.level b.block) (pairs_after κ b.level b.block next) t x v r n →
       Writes (Rooted κ b) (pairs_from κ b low) s x m r n
-  writes_way m u v n b low w s t x r h one within leads first last =
+  writes_way m u v n b low w next s t x r h one later within leads first last =
       let same : Rooted κ b m → u ≡ m = λ p. (leads p).found.same in
       let done : Rooted κ b m → Fills (pairs_from κ w.child low m) s t × (v ≡ m) = λ p.
       let d = first (subst (Rooted κ w.child) (sym (same p)) (child_rooted κ law m u b low w h p (leads p) one)) in
       (subst (λ z. Fills (pairs_from κ w.child low z) s t) (same p) d.0, d.1 ∙ same p) in
-      writes_then (Rooted κ b) (Stored κ b.level b.block) (pairs_from κ w.child low m) (pairs_from κ b low) (pairs_after κ b.level b.block (w.place + 1)) s t x m v n r within done
+      writes_then (Rooted κ b) (Stored κ b.level b.block) (pairs_from κ w.child low m) (pairs_from κ b low) (pairs_after κ b.level b.block next) s t x m v n r within done
       (λ p. subst (Stored κ b.level b.block) (sym (done p).1) (rooted_stored κ m b p))
-      (λ p. ap (λ z. pairs_from κ w.child low m ++ pairs_after κ b.level b.block (w.place + 1) z) (done p).1 ∙ from_step m u b low w h one p (leads p))
+      (λ p. (λ j. pairs_from κ w.child low m ++ pairs_after κ b.level b.block (later j) ((done p).1 j)) ∙ from_step m u b low w h one p (leads p))
       last
 
   -- the whole report
@@ -246,25 +246,26 @@ module _ {K : Type 0} (κ : Kind K) (law : Lawful κ) where
     run : qs ≡ take (length qs) (pairs_from κ b low m)
     run = within_run law.ordered low high (pairs_below κ b m) p.sits.ascending
 
-    pub reported : Fills (pairs_from κ b low u) (lent (take fit ks) (take fit hs) 0) t × (n ≡ u) → Reported κ b low high ks hs (t.keys ++ drop fit ks) (t.handles ++ drop fit hs) m all n
-    reported d =
+    pub reported : (r : ℕ) → r ≡ all → Fills (pairs_from κ b low u) (lent (take fit ks) (take fit hs) 0) t × (n ≡ u) → Reported κ b low high ks hs (t.keys ++ drop fit ks) (t.handles ++ drop fit hs) m r n
+    reported r answer d =
         let f : Fills (pairs_from κ b low m) (lent (take fit ks) (take fit hs) 0) t = subst (λ z. Fills (pairs_from κ b low z) (lent (take fit ks) (take fit hs) 0) t) counted.same d.0 in
         let full : fit ≡ min (length qs) (length ks) = omega (arith, least, counted.value_is) in
         let ks_is = keys_all qs (pairs_from κ b low m) ks hs fit t run few small even room f.part full f.all in
         let hs_is = handles_all qs (pairs_from κ b low m) ks hs fit t run few small even room f.part full f.all in
+        let total : length qs ≡ r = omega (arith, answer, counted.value_is) in
         let same_length : eqb (length ks) (length hs) ≡ true = eq-eqb (length ks) (length hs) even in
         record {
-          told = ap (λ z. cond z (Ok (length qs), over (λ p. p.key) qs ks, over (λ p. p.handle) qs hs) (Err 7, ks, hs)) same_length ∙ (λ i. (Ok (sym counted.value_is i), sym ks_is i, sym hs_is i));
+          told = ap (λ z. cond z (Ok (length qs), over (λ p. p.key) qs ks, over (λ p. p.handle) qs hs) (Err 7, ks, hs)) same_length ∙ (λ i. (Ok (total i), sym ks_is i, sym hs_is i));
           same = d.1 ∙ counted.same;
         }
 
-    pub halted : (f : Fault) → Part (pairs_from κ b low u) (lent (take fit ks) (take fit hs) 0) t × Lost u f n → Halted κ b low high ks hs (t.keys ++ drop fit ks) (t.handles ++ drop fit hs) m (record { fault = f; written = t.written }) n
-    halted f d =
+    pub halted : (f : Fault) (many : ℕ) → many ≡ t.written → Part (pairs_from κ b low u) (lent (take fit ks) (take fit hs) 0) t × Lost u f n → Halted κ b low high ks hs (t.keys ++ drop fit ks) (t.handles ++ drop fit hs) m (record { fault = f; written = many }) n
+    halted f many e d =
         let w : Part (pairs_from κ b low m) (lent (take fit ks) (take fit hs) 0) t = subst (λ z. Part (pairs_from κ b low z) (lent (take fit ks) (take fit hs) 0) t) counted.same d.0 in
         record {
           lost = lost_later (kin_same counted.same) d.1;
-          few = omega (arith, room, few);
-          fits = omega (arith, room, small);
-          keys = keys_over qs (pairs_from κ b low m) ks hs fit t run few small even room w;
-          handles = handles_over qs (pairs_from κ b low m) ks hs fit t run few small even room w;
+          few = omega (arith, e, room, few);
+          fits = omega (arith, e, room, small);
+          keys = keys_over qs (pairs_from κ b low m) ks hs fit t run few small even room w ∙ ap (λ z. over (λ p. p.key) (take z qs) ks) (sym e);
+          handles = handles_over qs (pairs_from κ b low m) ks hs fit t run few small even room w ∙ ap (λ z. over (λ p. p.handle) (take z qs) hs) (sym e);
         }

@@ -52,6 +52,6 @@ returns-clause-writes g t c = λ h.
     let x = c.in_ok-write_from.ensures.writes a.ready in
     let y = c.write_entries-2.ensures.writes x.ready in
     record {
-      call = writes_way (of g) (law g) _ _ _ _ _ _ _ _ _ _ _ c.if-node-eq0.false c.in_ok-way.ensures.child.1 (omega (arith, c.write_entries-2.ensures.within, c.write_entries-2.auto.keys)) (λ p. a.call (rooted_peopled (of g) (law g) _ _ c.if-node-eq0.false p)) x.call y.call;
+      call = writes_way (of g) (law g) _ _ _ _ _ _ _ _ _ _ _ _ c.if-node-eq0.false c.in_ok-way.ensures.child.1 (omega arith) (omega (arith, c.write_entries-2.ensures.within, c.write_entries-2.auto.keys)) (λ p. a.call (rooted_peopled (of g) (law g) _ _ c.if-node-eq0.false p)) x.call y.call;
       ready = y.ready;
     }

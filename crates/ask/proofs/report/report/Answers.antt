@@ -18,7 +18,7 @@ returns-in-Ok-clause-reports g c = λ even h.
     record {
       call = λ p.
           let n = a.call p in
-          reported (of g) (law g) _ _ _ _ _ _ _ _ _ _ _ even p n (omega (arith, c.min-fit.ensures)) c.in-Ok.ensures.within (x.call (lowly_after (of g) _ _ _ n.same p).sits);
+          reported (of g) (law g) _ _ _ _ _ _ _ _ _ _ _ even p n (omega (arith, c.min-fit.ensures)) c.in-Ok.ensures.within _ (omega arith) (x.call (lowly_after (of g) _ _ _ n.same p).sits);
       ready = x.ready;
     }
 
@@ -29,6 +29,6 @@ returns-in-Err-clause-reports g c = λ even h.
     record {
       call = λ p.
           let n = a.call p in
-          halted (of g) (law g) _ _ _ _ _ _ _ _ _ _ _ even p n (omega (arith, c.min-fit.ensures)) c.in-Err.ensures.within _ (x.call (lowly_after (of g) _ _ _ n.same p).sits);
+          halted (of g) (law g) _ _ _ _ _ _ _ _ _ _ _ even p n (omega (arith, c.min-fit.ensures)) c.in-Err.ensures.within _ _ (omega arith) (x.call (lowly_after (of g) _ _ _ n.same p).sits);
       ready = x.ready;
     }

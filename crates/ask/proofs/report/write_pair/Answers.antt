@@ -1,3 +1,4 @@
+use Rattle.std.proofs.Common.{arith}
 use Rattle.copies.proofs.Exits.{raised, lost_later, kin_same}
 use Rattle.nodes.proofs.Rooms.{room_same}
 use Rattle.held.specs.Held.{Kind, kind}
@@ -36,6 +37,6 @@ returns-clause-writes g c = λ h.
       call = λ p.
           let room = stored_room (of g) _ _ _ p.stored in
           let k = x.call room in
-          wrote_pair (of g) _ _ _ _ _ _ _ _ p k (y.call (room_same _ _ _ _ k.same room));
+          wrote_pair (of g) _ _ _ _ _ _ _ _ _ _ _ (omega arith) (omega arith) (omega arith) p k (y.call (room_same _ _ _ _ k.same room));
       ready = y.ready;
     }
