@@ -1,5 +1,5 @@
 -- An empty index laid out in a store.
-use Rattle.std.proofs.Common.{◌≡◌, ◌≢◌, ℕ, zero, suc, ◌+◌, ◌-◌, ◌<◌, ◌≤◌, ◌&&◌, nat_le, nat_lt, Bool, true, false, cond, ◌==◌, Some, None, List, [], ◌∷◌, map, get_or, sym, refl, ap, ◌∙◌, subst, ⊎_elim, arith}
+use Rattle.std.proofs.Common.{◌≡◌, ◌≢◌, ℕ, zero, suc, ◌+◌, ◌-◌, ◌<◌, ◌≤◌, ◌&&◌, nat_le, nat_lt, Bool, true, false, cond, ◌==◌, Some, None, List, [], ◌∷◌, map, get_or, sym, ap, ◌∙◌, subst, ⊎_elim, arith}
 use Rattle.std.specs.List.{AllByRecursion}
 use Rattle.std.proofs.lemmas.Bool.{both_ways, cases_Bool, cases_lt, and_from, le-leb, lt-ltb, le-ltb, eq-eqb, cond-true, cond-false}
 use Rattle.store.specs.Meaning.{Meaning, Sound, limit, count, count_to, free}
@@ -11,7 +11,7 @@ use Rattle.copies.proofs.Exits.{Kin}
 use Rattle.copies.proofs.Edits.{edit_here, edit_other, edit_granted, edit_frame}
 use Rattle.nodes.specs.declared.header.Header.{Header}
 use Rattle.nodes.specs.Headers.{Headroom, header_words}
-use Rattle.nodes.specs.Nodes.{Entry, entries, entry_at, upto}
+use Rattle.nodes.specs.Nodes.{entries, entry_at, upto}
 use Rattle.nodes.specs.Places.{Form, breadth}
 use Rattle.plain.specs.Plain.{Sorted}
 use Rattle.tree.specs.Lists.{joined}
@@ -78,8 +78,8 @@ module _ {K : Type 0} (κ : Kind K) (at r : ℕ) where
       let feet_are : feet κ n.words 0 r ≡ r ∷ [] = ap (λ xs. r ∷ joined (foot κ n.words 0) xs) es in
       let root_is : node κ n.words 0 r ≡ [] = ap (map (item κ n.words 0)) es in
       let exact : (c : ℕ) → times c (at ∷ feet κ n.words 0 r) ≡ bit (n.granted c) = λ c.
-          let z = ap bit (none_granted m law none c) in
-          omega (arith, first.moved c, second.moved c, ap (λ g. bit (g c)) (edit_granted v n at F e), z, ap (times c) feet_are) in
+      let z = ap bit (none_granted m law none c) in
+      omega (arith, first.moved c, second.moved c, ap (λ g. bit (g c)) (edit_granted v n at F e), z, ap (times c) feet_are) in
       let holds : HoldsTree κ at head (empty K) n = record {
         stands = record {
           sits = record {

@@ -1,5 +1,5 @@
 -- The blocks of an index after an update, once its header is written.
-use Rattle.std.proofs.Common.{◌≡◌, ℕ, ◌+◌, ◌*◌, ◌<◌, ◌≤◌, Bool, true, false, ◌==◌, nat_lt, nat_le, cond, not, is_some, Option, Some, None, suc, ◌∷◌, List, length, Ok, Err, ◌≢◌, ⊎_elim, sym, refl, ap, ◌∙◌, subst, arith}
+use Rattle.std.proofs.Common.{◌≡◌, ℕ, ◌+◌, ◌*◌, ◌≤◌, Bool, true, false, ◌==◌, nat_lt, nat_le, cond, not, is_some, Option, Some, None, suc, ◌∷◌, List, length, Ok, Err, ◌≢◌, ⊎_elim, sym, refl, ap, ◌∙◌, subst, arith}
 use Rattle.std.specs.List.{AllByRecursion}
 use Rattle.std.proofs.lemmas.Bool.{eq-eqb, cond-true}
 use Rattle.store.specs.Meaning.{Meaning, free}
@@ -13,7 +13,7 @@ use Rattle.copies.proofs.Edits.{edit_here, edit_other, edit_granted, edit_frame}
 use Rattle.nodes.specs.Headers.{Headroom, header_words}
 use Rattle.nodes.specs.Places.{breadth}
 use Rattle.nodes.specs.declared.header.Header.{Header}
-use Rattle.tree.specs.Tree.{Tree, Update, adds, drops, index_shape, index_unit, content, weight, pairs, Fit, Kids, updated}
+use Rattle.tree.specs.Tree.{Tree, Update, adds, drops, index_shape, index_unit, content, weight, pairs, Fit, Kids}
 use Rattle.tree.specs.Counts.{taken}
 use Rattle.plain.specs.Plain.{Sorted, present, one_more}
 use Rattle.balance.specs.Marks.{mark_at}
@@ -21,14 +21,13 @@ use Rattle.balance.specs.Updates.{RefusedFor}
 use Rattle.balance.specs.declared.marks.Marks.{Marks}
 use Rattle.tree.specs.Runs.{takes_up}
 use Rattle.balance.specs.declared.update.Updated.{Updated}
-use Rattle.held.specs.Held.{Kind, Lawful, node, feet, Whole, times, bit}
-use Rattle.held.specs.Roots.{Stands, Becomes, tree_of}
-use Rattle.held.proofs.Feet.{times_head}
+use Rattle.held.specs.Held.{Kind, Lawful, feet, times, bit}
+use Rattle.held.specs.Roots.{Becomes, tree_of}
 use Rattle.held.proofs.Frames.{frame_node}
 use Rattle.held.proofs.Steps.{bit_true, bit_most, step_block}
 use Rattle.held.proofs.Wholes.{stands_on}
 use Rattle.index.specs.Holds.{HoldsTree}
-use Rattle.index.specs.Open.{SameHandle, Open}
+use Rattle.index.specs.Open.{SameHandle}
 use Rattle.index.specs.Steps.{Noted}
 use Rattle.index.specs.Updated.{refuses, Rewritten, Rewrites, Accepts, Updates, update_fell, update_refused}
 use Rattle.index.specs.declared.index.Index.{Index}
@@ -91,7 +90,7 @@ module _ {K : Type 0} (κ : Kind K) (law : Lawful κ) (at : ℕ) (h : Header) (u
       let same = frame_node κ v.words n.words l b agree in
       let granted : (c : ℕ) → bit (n.granted c) ≡ bit (v.granted c) = λ c. ap (λ f. bit (f c)) (edit_granted v n at F e) in
       let exact : (c : ℕ) → times c (at ∷ feet κ n.words l b) ≡ bit (n.granted c) = λ c.
-          omega (arith, made.step.moved c, holds.exact c, ap (times c) same.1, granted c) in
+      omega (arith, made.step.moved c, holds.exact c, ap (times c) same.1, granted c) in
       record {
         holds = record {
           stands = record {

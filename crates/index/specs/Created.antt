@@ -1,5 +1,5 @@
 -- What making an index in a store answers.
-use Rattle.std.specs.Prelude.{◌≡◌, ℕ, ◌⊎◌, Bool, false, cond, ◌&&◌, None, Some, Ok, Err, Option, Result, ◌==◌, nat_lt}
+use Rattle.std.specs.Prelude.{◌≡◌, ℕ, ◌⊎◌, false, cond, ◌&&◌, None, Some, Ok, Err, Option, Result, ◌==◌, nat_lt}
 use Rattle.store.specs.Meaning.{Meaning, count, free}
 use Rattle.store.specs.Calls.{Lost}
 use Rattle.store.specs.declared.fault.Fault.{Fault}

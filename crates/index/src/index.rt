@@ -84,12 +84,7 @@ fn put_in<K: Key, S: Store>(
 }
 
 // Takes a key out of the tree, and writes the tree's header into its block.
-fn take_out<K: Key, S: Store>(
-    store: &mut S,
-    at: u32,
-    tree: Tree,
-    key: &K,
-) -> Result<Updated, Fault>
+fn take_out<K: Key, S: Store>(store: &mut S, at: u32, tree: Tree, key: &K) -> Result<Updated, Fault>
     ensures { Leaves S.meaning S.ready (Rewrites (kind K.width K.cmp K.packed K.unpacked) at tree.header (drops key.now)) store.old result store.new }
 {
     let updated = delete(store, tree, key)?;

@@ -1,4 +1,4 @@
-use Rattle.std.proofs.Common.{◌≡◌, ◌≤◌, ap, ◌∙◌, subst, inl, arith}
+use Rattle.std.proofs.Common.{◌≡◌, ◌≤◌, ◌∙◌, subst, inl, arith}
 use Rattle.store.specs.Calls.{TakeDone}
 use Rattle.store.specs.Meaning.{free, count}
 use Rattle.nodes.specs.Places.{breadth}
