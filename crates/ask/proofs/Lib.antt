@@ -1,1 +1,5 @@
+pub mod Intervals
 pub mod Leaves
+pub mod Ranks
+pub mod Reporting
+pub mod Writing

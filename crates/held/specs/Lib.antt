@@ -1,3 +1,4 @@
 pub mod Held
 pub mod Roots
+pub mod Exchange
 pub mod Laws

@@ -1,0 +1,4 @@
+pub mod Queries
+pub mod Resumes
+pub mod Creates
+pub mod Updates
