@@ -308,9 +308,9 @@ pub record Corrected {K : Type 0} (κ : Kind K) (w : Way) (m : Meaning) (e : Cod
 
 module _ {K : Type 0} (κ : Kind K) (law : Lawful κ) where
   -- by what was read
-  pub corrected : (w : Way) (m a b u : Meaning) (v x : ℕ) (k : K) (e : Coded K) → Stale κ w m → Weighs w.parent w.place m v a → Keyed κ.form κ.unpacked w.child.block 0 a k b → x ≡ v - 1 → e.weight ≡ x → e.key ≡ k → e.child ≡ w.child.block →
+  pub corrected : (w : Way) (m a b u : Meaning) (v x : ℕ) (k : K) (e : Coded K) → Stale κ w m → Weighs w.parent w.place m v a → Keyed κ.form κ.unpacked w.child.block 0 a k b → e.weight ≡ x → x ≡ v - 1 → e.key ≡ k → e.child ≡ w.child.block →
       Changed κ.form w.parent (replace_at w.place (entry_of κ.packed e)) b tt u → Corrected κ w m e u
-  corrected w m a b u v x k e d light key ex ew ek ec put = record {
+  corrected w m a b u v x k e d light key ew ex ek ec put = record {
     weight_is = ew ∙ ex ∙ ap (λ z. z - 1) (light.value κ.form);
     key_is = ek ∙ key.value ∙ ap (λ z. κ.unpacked (entry_at κ.form (z.words w.child.block) 0).key) light.same;
     child_is = ec;

@@ -1,4 +1,4 @@
-use Rattle.std.proofs.Common.{inl}
+use Rattle.std.proofs.Common.{inl, arith}
 use Rattle.copies.proofs.Exits.{raised, lost_later, kin_same}
 use Rattle.held.specs.Held.{Kind, kind, Lawful}
 use Rattle.shrink.proofs.Deleting.{accepted, root_holds, root_kin, topped, becomes}
@@ -31,7 +31,7 @@ returns-in_err-tree g c =
       call = λ p.
           let f = a.call p.sits in
           let d = b.call (root_holds (of g) (law g) _ _ _ _ _ _ c.is_none.ensures c.if-is_none.false p f) in
-          inl (lost_later (root_kin (of g) (law g) _ _ _ _ _ _ c.is_none.ensures c.if-is_none.false p f _ _ d _ c.saturating_sub.ensures) (r.call (topped (of g) (law g) _ _ _ _ _ _ c.is_none.ensures c.if-is_none.false p f _ _ d _ c.saturating_sub.ensures)));
+          inl (lost_later (root_kin (of g) (law g) _ _ _ _ _ _ c.is_none.ensures c.if-is_none.false p f _ _ d c.saturating_sub.result (omega (arith, c.saturating_sub.ensures))) (r.call (topped (of g) (law g) _ _ _ _ _ _ c.is_none.ensures c.if-is_none.false p f _ _ d c.saturating_sub.result (omega (arith, c.saturating_sub.ensures)))));
       ready = r.ready;
     })
 
@@ -44,10 +44,10 @@ returns g c = λ h.
       call = λ p.
           let f = a.call p.sits in
           let d = b.call (root_holds (of g) (law g) _ _ _ _ _ _ c.is_none.ensures c.if-is_none.false p f) in
-          let t = r.call (topped (of g) (law g) _ _ _ _ _ _ c.is_none.ensures c.if-is_none.false p f _ _ d _ c.saturating_sub.ensures) in
+          let t = r.call (topped (of g) (law g) _ _ _ _ _ _ c.is_none.ensures c.if-is_none.false p f _ _ d c.saturating_sub.result (omega (arith, c.saturating_sub.ensures))) in
           record {
             reason = accepted (of g) (law g) _ _ _ _ _ _ c.is_none.ensures c.if-is_none.false p f;
-            done = becomes (of g) (law g) _ _ _ _ _ _ c.is_none.ensures c.if-is_none.false p f _ _ d _ c.saturating_sub.ensures _ _ t;
+            done = becomes (of g) (law g) _ _ _ _ _ _ c.is_none.ensures c.if-is_none.false p f _ _ d c.saturating_sub.result (omega (arith, c.saturating_sub.ensures)) _ _ t;
           };
       ready = r.ready;
     }

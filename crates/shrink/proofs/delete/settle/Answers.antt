@@ -46,7 +46,7 @@ returns-then-weight-limit g c = λ h.
       call = λ p.
           let x = a.call (stale_word (of g) (law g) _ _ p) in
           let y = b.call (room_same _ _ _ _ x.same (stale_room (of g) (law g) _ _ p)) in
-          let z = corrected (of g) (law g) _ _ _ _ _ _ _ _ _ p x y (c.saturating_sub-weight.ensures) e.weight e.key e.child (r.call (stale_has (of g) (law g) _ _ p (y.same ∙ x.same))) in
+          let z = corrected (of g) (law g) _ _ _ _ _ _ _ _ _ p x y e.weight (omega (arith, c.saturating_sub-weight.ensures)) e.key e.child (r.call (stale_has (of g) (law g) _ _ p (y.same ∙ x.same))) in
           settled_heavy (of g) (law g) _ _ _ _ p z (omega (arith, c.if-weight-limit.true, c.limit.ensures, e.weight));
       ready = r.ready;
     }
@@ -63,7 +63,7 @@ returns g c = λ h.
           (λ p.
           let x = a.call (stale_word (of g) (law g) _ _ p) in
           let y = b.call (room_same _ _ _ _ x.same (stale_room (of g) (law g) _ _ p)) in
-          corrected (of g) (law g) _ _ _ _ _ _ _ _ _ p x y (c.saturating_sub-weight.ensures) e.weight e.key e.child (r.call (stale_has (of g) (law g) _ _ p (y.same ∙ x.same))))
+          corrected (of g) (law g) _ _ _ _ _ _ _ _ _ p x y e.weight (omega (arith, c.saturating_sub-weight.ensures)) e.key e.child (r.call (stale_has (of g) (law g) _ _ p (y.same ∙ x.same))))
           (omega (arith, c.if-weight-limit.false, c.limit.ensures, e.weight))
           q.call;
       ready = q.ready;
