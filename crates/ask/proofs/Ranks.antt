@@ -5,7 +5,7 @@ use Rattle.std.proofs.lemmas.Bool.{false≢true}
 use Rattle.std.specs.Int.{from_bool}
 use Rattle.std.specs.List.{AllByRecursion}
 use Rattle.std.specs.Ordering.{is_lt, is_le, is_eq}
-use Rattle.store.specs.Meaning.{Meaning}
+use Rattle.store.specs.Meaning.{Meaning, Sound}
 use Rattle.keys.specs.Orders.{Orderly}
 use Rattle.keys.specs.Sorted.{how_many, passes}
 use Rattle.keys.specs.Totals.{less_below}
@@ -31,9 +31,10 @@ use Rattle.balance.proofs.Weights.{still_weighable, summed_more}
 use Rattle.held.specs.Held.{Kind, Lawful, item, node, Sits}
 use Rattle.held.specs.Roots.{pairs_in, pairs_below, Rooted, Tells}
 use Rattle.held.proofs.Child.{Child, child, peopled, node_of, item_at, node_length}
-use Rattle.held.proofs.Halving.{weights_are, sum_is, get_total, total_map, limit_small}
-use Rattle.ask.specs.Ranks.{passing, Begun, Passed, Lowly}
+use Rattle.held.proofs.Halving.{weights_are, sum_is, get_total, total_map}
+use Rattle.ask.specs.Ranks.{passing, Begun, Passed}
 use Rattle.ask.proofs.Leaves.{parted, leaf_pairs}
+use Rattle.ask.proofs.Sizes.{few_keys}
 
 -- the weights of a node's first entries are added one by one
 pub begun_more : (φ : Form) (b l n i all w : ℕ) (m u t : Meaning) → i < n → Begun φ b l n m → u ≡ m → all ≡ sum (take i (weights φ l (m.words b))) → Weighed φ b l i u w t →
@@ -101,8 +102,8 @@ module _ {K : Type 0} {order : K → K → Ordering} (o : Orderly order) where
         go Greater f = absurd (false≢true (ap is_le (sym f) ∙ last_low))
 
 module _ {K : Type 0} (κ : Kind K) where
-  pub lowly_after : (m n : Meaning) (b : Node) → n ≡ m → Lowly κ b m → Lowly κ b n
-  lowly_after m n b e p = subst (Lowly κ b) (sym e) p
+  pub rooted_after : (m n : Meaning) (b : Node) → n ≡ m → Rooted κ b m → Rooted κ b n
+  rooted_after m n b e s = subst (Rooted κ b) (sym e) s
 
 module _ {K : Type 0} (κ : Kind K) (law : Lawful κ) where
   -- the search in a leaf counts the keys at most k
@@ -151,14 +152,13 @@ module _ {K : Type 0} (κ : Kind K) (law : Lawful κ) where
       let x = node κ m.words l b in
       ap (λ z. sum (take i z)) (weights_are κ m.words l (entries κ.form (m.words b)) s.whole.2) ∙ ap sum (take-map (weight K l) i x) ∙ total_map (weight K l) (take i x)
 
-  -- no more keys than a root may have
-  passing_small : (m : Meaning) (b : Node) (k : K) (equal : Bool) → Lowly κ b m → passing κ.order equal k (pairs_below κ b m) ≤ 2 ^ 40
-  passing_small m b k equal p = omega (
+  -- no more keys than blocks can hold
+  passing_small : (m : Meaning) (b : Node) (k : K) (equal : Bool) → Sound m → Rooted κ b m → passing κ.order equal k (pairs_below κ b m) ≤ 2 ^ 40
+  passing_small m b k equal sound s = omega (
     arith,
     how_many_most (λ (q : Pair K). passes equal (κ.order q.key k)) (pairs_below κ b m),
     count_pairs K (suc b.level) (node κ m.words b.level b.block),
-    p.sits.light,
-    limit_small b.level p.low,
+    few_keys κ m b.level b.block sound s,
   )
 
   -- a node above the leaves, named by the level below
@@ -183,19 +183,14 @@ module _ {K : Type 0} (κ : Kind K) (law : Lawful κ) where
     pub child_rooted : w.child.level ≡ b.level - 1 → Rooted κ w.child m
     child_rooted one = subst (λ j. Rooted κ (record { block = w.child.block; level = j }) m) (sym one) way_child.sits
 
-  module _ (m u : Meaning) (b : Node) (k : K) (w : Way) (h : b.level ≡ 0 → ⊥) (one : w.child.level ≡ b.level - 1) (p : Lowly κ b m) (led : Led κ.form κ.order κ.unpacked b.block k m w u) where
+  module _ (m u : Meaning) (b : Node) (k : K) (w : Way) (h : b.level ≡ 0 → ⊥) (one : w.child.level ≡ b.level - 1) (sound : Sound m) (s : Rooted κ b m) (led : Led κ.form κ.order κ.unpacked b.block k m w u) where
     c : Child κ index_unit m (b.level - 1) b.block k w
-    c = way_child m u b k w h p.sits led
-
-    -- the child keeps the rules as well
-    pub child_lowly : Lowly κ w.child m
-    child_lowly = record { sits = child_rooted m u b k w h p.sits led one; low = omega (arith, p.low) }
+    c = way_child m u b k w h s led
 
     -- the weights before it can be added
     pub way_begun : Begun κ.form b.block b.level w.place u
     way_begun =
-        let s = p.sits in
-        let mild : Mild κ.form b.block b.level m = record { node = node_of κ index_unit m b.level b.block s; each = λ i. omega (arith, get_total (weights κ.form b.level (m.words b.block)) i, sum_is κ m b.level b.block s.whole, s.light, limit_small b.level p.low) } in
+        let mild : Mild κ.form b.block b.level m = record { node = node_of κ index_unit m b.level b.block s; each = λ i. omega (arith, get_total (weights κ.form b.level (m.words b.block)) i, sum_is κ m b.level b.block s.whole, few_keys κ m b.level b.block sound s) } in
         subst (Begun κ.form b.block b.level w.place) (sym led.found.same) (record { mild = mild; within = omega (arith, c.within) })
 
     -- the keys before the way, and those in the child
@@ -205,19 +200,19 @@ module _ {K : Type 0} (κ : Kind K) (law : Lawful κ) where
         let l = b.level - 1 in
         let more : b.level ≡ suc l = omega arith in
         let back : v ≡ m = x.same ∙ led.found.same in
-        let few : below ≤ 2 ^ 40 = omega (arith, y.value_is, ap (λ z. passing κ.order equal k (pairs_below κ w.child z)) back, passing_small m w.child k equal child_lowly) in
+        let few : below ≤ 2 ^ 40 = omega (arith, y.value_is, ap (λ z. passing κ.order equal k (pairs_below κ w.child z)) back, passing_small m w.child k equal sound (child_rooted m u b k w h s led one)) in
         let before : passed ≡ total (weight K (suc l)) (take w.place (node κ m.words (suc l) b.block)) =
-        x.value ∙ ap (λ z. sum (take w.place (weights κ.form b.level (z.words b.block)))) led.found.same ∙ ap (λ j. sum (take w.place (weights κ.form j (m.words b.block)))) more ∙ passed_is m (suc l) b.block w.place (above_leaf m b h p.sits) in
+        x.value ∙ ap (λ z. sum (take w.place (weights κ.form b.level (z.words b.block)))) led.found.same ∙ ap (λ j. sum (take w.place (weights κ.form j (m.words b.block)))) more ∙ passed_is m (suc l) b.block w.place (above_leaf m b h s) in
         let under : below ≡ passing κ.order equal k (pairs_in κ m.words l w.child.block) =
         y.value_is ∙ ap (λ z. passing κ.order equal k (pairs_below κ w.child z)) back ∙ ap (λ j. passing κ.order equal k (pairs_in κ m.words j w.child.block)) one in
-        let here : r ≡ passing κ.order equal k (pairs_in κ m.words (suc l) b.block) = omega (arith, sum_is few, before, under, passing_step m l b.block k w equal (above_leaf m b h p.sits) c) in
+        let here : r ≡ passing κ.order equal k (pairs_in κ m.words (suc l) b.block) = omega (arith, sum_is few, before, under, passing_step m l b.block k w equal (above_leaf m b h s) c) in
         record { value_is = here ∙ ap (λ j. passing κ.order equal k (pairs_in κ m.words j b.block)) (sym more); same = y.same ∙ back }
 
   -- the keys from low to high, counted by the keys below low and those up to high
-  pub within_told : (m u n : Meaning) (b : Node) (low high : K) (below upto r : ℕ) → Lowly κ b m → Tells (λ z. rank κ.order low (pairs_below κ b z)) m below u → Tells (λ z. up_to κ.order high (pairs_below κ b z)) u upto n → r ≡ upto - below →
+  pub within_told : (m u n : Meaning) (b : Node) (low high : K) (below upto r : ℕ) → Rooted κ b m → Tells (λ z. rank κ.order low (pairs_below κ b z)) m below u → Tells (λ z. up_to κ.order high (pairs_below κ b z)) u upto n → r ≡ upto - below →
       Tells (λ z. length (within κ.order low high (pairs_below κ b z))) m r n
   within_told m u n b low high below upto r p x y e = record {
-    value_is = omega (arith, e, x.value_is, y.value_is, ap (λ z. up_to κ.order high (pairs_below κ b z)) x.same, counted law.ordered low high (pairs_below κ b m) p.sits.ascending);
+    value_is = omega (arith, e, x.value_is, y.value_is, ap (λ z. up_to κ.order high (pairs_below κ b z)) x.same, counted law.ordered low high (pairs_below κ b m) p.ascending);
     same = y.same ∙ x.same;
   }
 

@@ -22,7 +22,7 @@ use Rattle.held.specs.Roots.{Rooted, Tells, pairs_in, pairs_below}
 use Rattle.held.proofs.Feet.{times_three, times_head}
 use Rattle.held.proofs.Steps.{bit_true}
 use Rattle.held.proofs.Child.{Child, entries_split, times_one, block_number_is, all_at, node_length, item_at}
-use Rattle.ask.specs.Ranks.{passing, Lowly}
+use Rattle.ask.specs.Ranks.{passing}
 use Rattle.ask.specs.Reports.{Reported, Halted}
 use Rattle.ask.specs.Writes.{Lent, lent, Wrote, Part, Fills, Writes, Stored, StoredAt, pairs_after, pairs_at, pairs_from}
 use Rattle.ask.proofs.Intervals.{within_run, keys_all, handles_all, keys_over, handles_over}
@@ -229,7 +229,7 @@ module _ {K : Type 0} (κ : Kind K) (law : Lawful κ) where
       last
 
   -- the whole report
-  module _ (m u n : Meaning) (b : Node) (low high : K) (ks : List K) (hs : List ℕ) (all fit : ℕ) (t : Lent K) (even : length ks ≡ length hs) (p : Lowly κ b m)
+  module _ (m u n : Meaning) (b : Node) (low high : K) (ks : List K) (hs : List ℕ) (all fit : ℕ) (t : Lent K) (even : length ks ≡ length hs) (p : Rooted κ b m)
       (counted : Tells (λ z. length (within κ.order low high (pairs_below κ b z))) m all u) (least : fit ≡ min all (length ks)) (lent_room : t.written ≤ length (take fit ks)) where
     abbrev qs : List (Pair K)
     qs = within κ.order low high (pairs_below κ b m)
@@ -244,7 +244,7 @@ module _ {K : Type 0} (κ : Kind K) (law : Lawful κ) where
     few = omega (arith, least, counted.value_is)
 
     run : qs ≡ take (length qs) (pairs_from κ b low m)
-    run = within_run law.ordered low high (pairs_below κ b m) p.sits.ascending
+    run = within_run law.ordered low high (pairs_below κ b m) p.ascending
 
     pub reported : (r : ℕ) → r ≡ all → Fills (pairs_from κ b low u) (lent (take fit ks) (take fit hs) 0) t × (n ≡ u) → Reported κ b low high ks hs (t.keys ++ drop fit ks) (t.handles ++ drop fit hs) m r n
     reported r answer d =

@@ -6,12 +6,11 @@ use Rattle.store.specs.declared.fault.Fault.{Fault}
 use Rattle.keys.specs.Sorted.{how_many, passes}
 use Rattle.copies.specs.Work.{Work}
 use Rattle.nodes.specs.Places.{Form}
-use Rattle.nodes.specs.declared.node.Node.{Node}
 use Rattle.plain.specs.declared.pair.Pair.{Pair}
-use Rattle.tree.specs.Tree.{index_shape, index_unit}
+use Rattle.tree.specs.Tree.{index_unit}
 use Rattle.balance.specs.Cuts.{Mild, sum, weights}
 use Rattle.held.specs.Held.{Kind, Sits}
-use Rattle.held.specs.Roots.{Rooted, Tells, pairs_in, pairs_below}
+use Rattle.held.specs.Roots.{Tells, pairs_in}
 
 -- how many keys are below k, or at most k where an equal one counts
 abbrev pub passing : {K : Type 0} → (K → K → Ordering) → Bool → K → List (Pair K) → ℕ
@@ -27,16 +26,6 @@ pub record Passed (φ : Form) (b l n : ℕ) (m : Meaning) (all : ℕ) (m' : Mean
   pub value : all ≡ sum (take n (weights φ l (m.words b)))
   pub same : m' ≡ m
 
-module _ {K : Type 0} (κ : Kind K) where
-  -- a tree that keeps the rules stands below this node, which is no higher than a root may be
-  pub record Lowly (b : Node) (m : Meaning) : Type 0 where
-    pub sits : Rooted κ b m
-    pub low : b.level ≤ index_shape.top
-
-  -- where such a tree stands, the answer is this of its pairs and nothing changed, or the store said 'down'
-  abbrev pub Counts : Node → (List (Pair K) → ℕ) → Meaning → Result ℕ Fault → Meaning → Type 0
-  Counts b value = Work (Lowly b) (Tells (λ m. value (pairs_below κ b m)))
-
-  -- the same of a leaf in block b
-  abbrev pub CountsLeaf : ℕ → (List (Pair K) → ℕ) → Meaning → Result ℕ Fault → Meaning → Type 0
-  CountsLeaf b value = Work (λ m. Sits κ index_unit m 0 b) (Tells (λ m. value (pairs_in κ m.words 0 b)))
+-- where a leaf that keeps the rules stands in block b, the answer is this of its pairs and nothing changed, or the store said 'down'
+abbrev pub CountsLeaf : {K : Type 0} → Kind K → ℕ → (List (Pair K) → ℕ) → Meaning → Result ℕ Fault → Meaning → Type 0
+CountsLeaf κ b value = Work (λ m. Sits κ index_unit m 0 b) (Tells (λ m. value (pairs_in κ m.words 0 b)))

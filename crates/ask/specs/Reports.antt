@@ -5,8 +5,7 @@ use Rattle.store.specs.Calls.{Lost}
 use Rattle.nodes.specs.declared.node.Node.{Node}
 use Rattle.plain.specs.Plain.{within, reports, over}
 use Rattle.held.specs.Held.{Kind}
-use Rattle.held.specs.Roots.{pairs_below}
-use Rattle.ask.specs.Ranks.{Lowly}
+use Rattle.held.specs.Roots.{Rooted, pairs_below}
 use Rattle.ask.specs.declared.report.Stopped.{Stopped}
 
 module _ {K : Type 0} (κ : Kind K) where
@@ -25,5 +24,5 @@ module _ {K : Type 0} (κ : Kind K) where
 
   -- where a tree stands below the root its pairs from low to high are reported, or the store said 'down'
   abbrev pub Reports : Node → K → K → List K → List ℕ → List K → List ℕ → Meaning → Result ℕ Stopped → Meaning → Type 0
-  Reports b low high ks hs ks' hs' m (Ok n) m' = Lowly κ b m → Reported b low high ks hs ks' hs' m n m'
-  Reports b low high ks hs ks' hs' m (Err e) m' = Lowly κ b m → Halted b low high ks hs ks' hs' m e m'
+  Reports b low high ks hs ks' hs' m (Ok n) m' = Rooted κ b m → Reported b low high ks hs ks' hs' m n m'
+  Reports b low high ks hs ks' hs' m (Err e) m' = Rooted κ b m → Halted b low high ks hs ks' hs' m e m'

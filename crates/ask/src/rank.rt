@@ -5,7 +5,8 @@ ghost use Rattle.copies.specs.Work.{Work};
 ghost use Rattle.nodes.specs.Places.{form};
 ghost use Rattle.plain.specs.Plain.{rank as plain_rank, up_to as plain_up_to};
 ghost use Rattle.held.specs.Held.{kind};
-ghost use Rattle.ask.specs.Ranks.{passing, Begun, Passed, Counts, CountsLeaf};
+ghost use Rattle.held.specs.Roots.{Asks};
+ghost use Rattle.ask.specs.Ranks.{passing, Begun, Passed, CountsLeaf};
 
 use balance::cut::weigh;
 use balance::down::way_down;
@@ -55,7 +56,7 @@ fn keys_before<K: Key, S: Store>(
     key: &K,
     equal: bool,
 ) -> Result<u64, Fault>
-    ensures { Leaves S.meaning S.ready (Counts (kind K.width K.cmp K.packed K.unpacked) node (passing K.cmp equal key.now)) store.old result store.new }
+    ensures { Leaves S.meaning S.ready (Asks (kind K.width K.cmp K.packed K.unpacked) node (passing K.cmp equal key.now)) store.old result store.new }
 {
     if node.level == 0 {
         return Ok(u64::from(leaf_keys_before(store, node.block, key, equal)?));
@@ -68,14 +69,14 @@ fn keys_before<K: Key, S: Store>(
 
 // How many keys are below `key`.
 pub fn rank<K: Key, S: Store>(store: &mut S, root: Node, key: &K) -> Result<u64, Fault>
-    ensures { Leaves S.meaning S.ready (Counts (kind K.width K.cmp K.packed K.unpacked) root (plain_rank K.cmp key.now)) store.old result store.new }
+    ensures { Leaves S.meaning S.ready (Asks (kind K.width K.cmp K.packed K.unpacked) root (plain_rank K.cmp key.now)) store.old result store.new }
 {
     keys_before(store, root, key, false)
 }
 
 // How many keys are at most `key`.
 pub fn up_to<K: Key, S: Store>(store: &mut S, root: Node, key: &K) -> Result<u64, Fault>
-    ensures { Leaves S.meaning S.ready (Counts (kind K.width K.cmp K.packed K.unpacked) root (plain_up_to K.cmp key.now)) store.old result store.new }
+    ensures { Leaves S.meaning S.ready (Asks (kind K.width K.cmp K.packed K.unpacked) root (plain_up_to K.cmp key.now)) store.old result store.new }
 {
     keys_before(store, root, key, true)
 }

@@ -5,8 +5,7 @@ ghost use Rattle.store.specs.declared.fault.Refusal.TheVariants.{Uneven};
 ghost use Rattle.plain.specs.Plain.{within as plain_within};
 ghost use Rattle.balance.specs.Updates.{own_refusal};
 ghost use Rattle.held.specs.Held.{kind};
-ghost use Rattle.held.specs.Roots.{Rooted};
-ghost use Rattle.ask.specs.Ranks.{Counts};
+ghost use Rattle.held.specs.Roots.{Asks, Rooted};
 ghost use Rattle.ask.specs.Reports.{Reports};
 ghost use Rattle.ask.specs.Writes.{lent, Stored, StoredAt, pairs_after, pairs_at, pairs_from, Writes};
 
@@ -144,7 +143,7 @@ fn count_within<K: Key, S: Store>(
     low: &K,
     high: &K,
 ) -> Result<u64, Fault>
-    ensures { Leaves S.meaning S.ready (Counts (kind K.width K.cmp K.packed K.unpacked) root (λ ps. length (plain_within K.cmp low.now high.now ps))) store.old result store.new }
+    ensures { Leaves S.meaning S.ready (Asks (kind K.width K.cmp K.packed K.unpacked) root (λ ps. length (plain_within K.cmp low.now high.now ps))) store.old result store.new }
 {
     if *low > *high {
         return Ok(0);

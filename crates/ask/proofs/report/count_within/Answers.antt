@@ -1,6 +1,6 @@
 use Rattle.std.proofs.Common.{arith, rules}
 use Rattle.held.specs.Held.{Kind, kind, Lawful}
-use Rattle.ask.proofs.Ranks.{lowly_after, within_told, within_zero}
+use Rattle.ask.proofs.Ranks.{rooted_after, within_told, within_zero}
 use Rattle.ask.proofs.report.count_within.Given as given
 use Rattle.ask.proofs.report.count_within.Goals as goal
 
@@ -20,6 +20,6 @@ returns g c = λ h.
     record {
       call = λ p.
           let x = a.call p in
-          within_told (of g) (law g) _ _ _ _ _ _ _ _ _ p x (b.call (lowly_after (of g) _ _ _ x.same p)) (omega (arith, c.saturating_sub.ensures));
+          within_told (of g) (law g) _ _ _ _ _ _ _ _ _ p x (b.call (rooted_after (of g) _ _ _ x.same p)) (omega (arith, c.saturating_sub.ensures));
       ready = b.ready;
     }

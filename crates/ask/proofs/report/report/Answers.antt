@@ -1,6 +1,6 @@
 use Rattle.std.proofs.Common.{arith}
 use Rattle.held.specs.Held.{Kind, kind, Lawful}
-use Rattle.ask.proofs.Ranks.{lowly_after}
+use Rattle.ask.proofs.Ranks.{rooted_after}
 use Rattle.ask.proofs.Reporting.{reported, halted}
 use Rattle.ask.proofs.report.report.Given as given
 use Rattle.ask.proofs.report.report.Goals as goal
@@ -18,7 +18,7 @@ returns-in-Ok-clause-reports g c = λ even h.
     record {
       call = λ p.
           let n = a.call p in
-          reported (of g) (law g) _ _ _ _ _ _ _ _ _ _ _ even p n (omega (arith, c.min-fit.ensures)) c.in-Ok.ensures.within _ (omega arith) (x.call (lowly_after (of g) _ _ _ n.same p).sits);
+          reported (of g) (law g) _ _ _ _ _ _ _ _ _ _ _ even p n (omega (arith, c.min-fit.ensures)) c.in-Ok.ensures.within _ (omega arith) (x.call (rooted_after (of g) _ _ _ n.same p));
       ready = x.ready;
     }
 
@@ -29,6 +29,6 @@ returns-in-Err-clause-reports g c = λ even h.
     record {
       call = λ p.
           let n = a.call p in
-          halted (of g) (law g) _ _ _ _ _ _ _ _ _ _ _ even p n (omega (arith, c.min-fit.ensures)) c.in-Err.ensures.within _ _ (omega arith) (x.call (lowly_after (of g) _ _ _ n.same p).sits);
+          halted (of g) (law g) _ _ _ _ _ _ _ _ _ _ _ even p n (omega (arith, c.min-fit.ensures)) c.in-Err.ensures.within _ _ (omega arith) (x.call (rooted_after (of g) _ _ _ n.same p));
       ready = x.ready;
     }
