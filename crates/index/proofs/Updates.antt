@@ -35,7 +35,7 @@ use Rattle.index.proofs.Queries.{still_open}
 use Rattle.index.proofs.Creates.{filled_at}
 
 -- a number in front occurs once more
-times_here : (c : ℕ) (ds : List ℕ) → times c (c ∷ ds) ≡ 1 + times c ds
+pub times_here : (c : ℕ) (ds : List ℕ) → times c (c ∷ ds) ≡ 1 + times c ds
 times_here c ds = ap (λ n. n + times c ds) (cond-true (c == c) 1 0 (eq-eqb c c refl))
 
 without_room : (p f b : Bool) → cond {A = Option ℕ} p (Some 3) (cond f (Some 5) (cond b (Some 6) None)) ≡ None → not (is_some (cond {A = Option ℕ} p (Some 3) (cond f (Some 5) (cond false (Some 6) None)))) ≡ true

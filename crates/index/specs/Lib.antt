@@ -4,3 +4,4 @@ pub mod Steps
 pub mod Created
 pub mod Updated
 pub mod Reported
+pub mod Laws
