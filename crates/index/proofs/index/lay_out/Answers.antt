@@ -19,7 +19,7 @@ returns-in_err-take_root g c =
     let s = c.in_ok-stock.ensures.keeps h in
     let a = c.in_ok-at.ensures.keeps s.ready in
     let one : TakeDone m at u = subst (λ z. TakeDone z at u) s.call.same a.call in
-    let two_free : 2 ≤ free m = omega (arith, s.call.granted, s.call.capacity, c.free.ensures, c.if-free-lt2.false) in
+    let two_free : 2 ≤ free m = omega (arith, s.call.granted, s.call.capacity, c.free.ensures) in
     let b = c.in_err-take_root.ensures.takes a.ready in
     record { call = λ _. inl (lost_later (kin_step m u _ _ (step_take m u at one)) (b.call (room_left κ at 0 m u one two_free))); ready = b.ready })
 
@@ -34,11 +34,11 @@ returns-in_err-put_header g c =
     let s = c.in_ok-stock.ensures.keeps h in
     let a = c.in_ok-at.ensures.keeps s.ready in
     let one : TakeDone m at u = subst (λ z. TakeDone z at u) s.call.same a.call in
-    let two_free : 2 ≤ free m = omega (arith, s.call.granted, s.call.capacity, c.free.ensures, c.if-free-lt2.false) in
+    let two_free : 2 ≤ free m = omega (arith, s.call.granted, s.call.capacity, c.free.ensures) in
     let v = g.S.Store.meaning c.take_root.new.store in
     let r = c.in_ok-take_root.field-0 in
     let b = c.in_ok-take_root.ensures.takes a.ready in
-    let width : m.shape.width ≡ breadth κ.form = omega (arith, s.call.width, c.block_width.ensures, c.if-stock-block_width.false) in
+    let width : m.shape.width ≡ breadth κ.form = omega (arith, s.call.width, c.block_width.ensures) in
     let two = b.call (room_left κ at r m u one two_free) in
     let p = c.in_err-put_header.ensures b.ready in
     record { call = λ _. inl (lost_later (kin_two κ at r m u v one two) (p.call (headroom κ at r m u v (omega (arith, width)) one two))); ready = p.ready })
@@ -56,9 +56,9 @@ returns g c h =
     let a = c.in_ok-at.ensures.keeps s.ready in
     let one : TakeDone m at u = subst (λ z. TakeDone z at u) s.call.same a.call in
     let b = c.in_ok-take_root.ensures.takes a.ready in
-    let width : m.shape.width ≡ breadth κ.form = omega (arith, s.call.width, c.block_width.ensures, c.if-stock-block_width.false) in
-    let none : count m ≡ 0 = omega (arith, s.call.granted, c.if-stock-ne0.false) in
-    let two_free : 2 ≤ free m = omega (arith, s.call.granted, s.call.capacity, c.free.ensures, c.if-free-lt2.false) in
+    let width : m.shape.width ≡ breadth κ.form = omega (arith, s.call.width, c.block_width.ensures) in
+    let none : count m ≡ 0 = omega (arith, s.call.granted) in
+    let two_free : 2 ≤ free m = omega (arith, s.call.granted, s.call.capacity, c.free.ensures) in
     let two = b.call (room_left κ at r m u one two_free) in
     let p = c.in_ok-put_header.ensures b.ready in
     let e = p.call (headroom κ at r m u v (omega (arith, width)) one two) in
