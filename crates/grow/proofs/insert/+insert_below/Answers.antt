@@ -1,6 +1,7 @@
 use Rattle.std.proofs.Common.{◌≤◌, refl, lit≤, arith}
 use Rattle.copies.proofs.Exits.{raised, lost_later, kin_same}
 use Rattle.held.specs.Held.{Kind, kind, Lawful}
+use Rattle.grow.proofs.Settling.{coded}
 use Rattle.grow.proofs.Leaf.{leaf_node, leaf_open, leaf_grew}
 use Rattle.grow.proofs.Growing.{roomy_peopled, below_roomy, below_kin, below_due, below_grew}
 use Rattle.grow.proofs.insert.+insert_below.Given as given
@@ -34,7 +35,7 @@ returns-then-node-eq0 g t c = λ h.
     record {
       call = λ p.
           let found = a.call (leaf_node (of g) (law g) (wide g) _ _ _ c.if-node-eq0.true p) in
-          leaf_grew (of g) (law g) (wide g) _ _ _ c.if-node-eq0.true p _ _ found _ _ _ _ refl (d.call (leaf_open (of g) (law g) (wide g) _ _ _ c.if-node-eq0.true p _ _ found)) c.none.ensures;
+          leaf_grew (of g) (law g) (wide g) _ _ _ c.if-node-eq0.true p _ _ found _ _ _ _ (coded (of g) _ 1 _ _ (omega arith) refl refl) (d.call (leaf_open (of g) (law g) (wide g) _ _ _ c.if-node-eq0.true p _ _ found)) c.none.ensures;
       ready = d.ready;
     }
 

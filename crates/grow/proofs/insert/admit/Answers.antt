@@ -36,7 +36,7 @@ returns-then-free-wanted g c = λ h.
           ] in
           let wanted : c.if-root_full-2.wanted ≡ taken (of g).order index_unit c.args.key.now (tree_of (of g) (g.S.Store.meaning c.args.store.now).words c.args.tree.header) =
           elim c.if-root_full-2.branch [
-            | then-root_full-2 w ↦ w.wanted-is ∙ wanted_full (of g) _ _ _ s _ _ found c.limit.ensures w.if-root_full-2.true
+            | then-root_full-2 w ↦ omega (arith, w.wanted-is, wanted_full (of g) _ _ _ s _ _ found c.limit.ensures w.if-root_full-2.true)
             | else-root_full-2 w ↦ w.wanted-is ∙ wanted_less (of g) _ _ _ s _ _ found c.limit.ensures w.if-root_full-2.false
           ] in
           inr (refused_for _ _ _ _ _ c.refuse-then-free-wanted.ensures (room_why (of g) _ _ _ s _ _ found c.limit.ensures can _ wanted (omega (arith, c.if-free-wanted.true, stock_free _ _ _ _ _ t.same b.call c.free.ensures))) (b.call.same ∙ t.same));
@@ -58,7 +58,7 @@ returns g c = λ h.
           ] in
           let wanted : c.if-root_full-2.wanted ≡ taken (of g).order index_unit c.args.key.now (tree_of (of g) (g.S.Store.meaning c.args.store.now).words c.args.tree.header) =
           elim c.if-root_full-2.branch [
-            | then-root_full-2 w ↦ w.wanted-is ∙ wanted_full (of g) _ _ _ s _ _ found c.limit.ensures w.if-root_full-2.true
+            | then-root_full-2 w ↦ omega (arith, w.wanted-is, wanted_full (of g) _ _ _ s _ _ found c.limit.ensures w.if-root_full-2.true)
             | else-root_full-2 w ↦ w.wanted-is ∙ wanted_less (of g) _ _ _ s _ _ found c.limit.ensures w.if-root_full-2.false
           ] in
           record {

@@ -42,7 +42,7 @@ returns-then-keys-limit g c = λ h.
       call = λ s.
           let ok = a.call s in
           let grew = grew_at (of g) (law g) _ _ _ s ok.reason _ _ _ _ ok.done (b.call (roomy_at (of g) (law g) _ _ _ s ok.reason _ ok.done)) in
-          record { reason = ok.reason; done = becomes_low (of g) (law g) _ _ _ s ok.reason _ _ _ grew _ c.limit.ensures _ c.if-keys-limit.true refl refl refl };
+          record { reason = ok.reason; done = becomes_low (of g) (law g) _ _ _ s ok.reason _ _ _ grew _ c.limit.ensures _ (omega (arith, c.if-keys-limit.true)) refl refl refl };
       ready = b.ready;
     }
 

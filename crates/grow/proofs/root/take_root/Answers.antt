@@ -1,4 +1,5 @@
 use Rattle.std.proofs.Common.{◌≡◌, ℕ, ◌≤◌, Bool, true, false, cond, ◌&&◌, refl, sym, ap₂, ◌∙◌, arith, true≢false}
+use Rattle.std.specs.Range.{range_inclusive_start}
 use Rattle.std.specs.Ordering.{is_le, is_lt, nat_cmp}
 use Rattle.std.proofs.lemmas.Grind.{common_steps}
 use Rattle.store.specs.Meaning.{limit}
@@ -20,5 +21,6 @@ in_range s e x false r h p q n low high = h ∙ ap₂ ◌&&◌ (le_is s x (omega
 pub returns-then-not-contains-clause-takes : goal.returns-then-not-contains-clause-takes
 returns-then-not-contains-clause-takes g c = λ h.
     let t = c.in_ok-block.ensures.keeps h in
-    let all = in_range _ _ _ _ _ c.contains.ensures.value c.new.ensures.start (c.new.ensures.end ∙ sym limit_is) c.new.ensures.exhausted t.call.low t.call.high in
+    let starts : range_inclusive_start c.new.result ≡ 1 = omega (arith, c.new.ensures.start) in
+    let all = in_range _ _ _ _ _ c.contains.ensures.value starts (c.new.ensures.end ∙ sym limit_is) c.new.ensures.exhausted t.call.low t.call.high in
     record { call = λ p. absurd (true≢false (sym all ∙ c.if-not-contains.true)); ready = t.ready }

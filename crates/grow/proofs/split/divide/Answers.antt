@@ -1,4 +1,4 @@
-use Rattle.std.proofs.Common.{Err}
+use Rattle.std.proofs.Common.{Err, arith}
 use Rattle.copies.proofs.Exits.{raised, lost_later, kin_same, take_work, work_then}
 use Rattle.nodes.specs.Nodes.{Has, Changed, entry_of, replace_at}
 use Rattle.tree.specs.declared.mark.Mark.TheVariants.{Split}
@@ -70,8 +70,8 @@ returns g c = λ h.
     let d = c.in_ok-move_tail.ensures b.ready in
     let e = c.in_ok-insert_entry.ensures d.ready in
     let r = c.replace_entry.ensures e.ready in
-    let left = coded (of g) _ _ _ _ c.of_child-left.ensures.weight c.of_child-left.ensures.key c.of_child-left.ensures.child in
-    let right = coded (of g) _ _ _ _ c.of_child-right.ensures.weight c.of_child-right.ensures.key c.of_child-right.ensures.child in
+    let left = coded (of g) _ c.in_ok-halves.halves.left _ _ (omega (arith, c.of_child-left.ensures.weight)) c.of_child-left.ensures.key c.of_child-left.ensures.child in
+    let right = coded (of g) _ c.in_ok-halves.halves.right _ _ (omega (arith, c.of_child-right.ensures.weight)) c.of_child-right.ensures.key c.of_child-right.ensures.child in
     record {
       call = work_then (TooHeavy (of g) c.args.way c.args.low) (Has (of g).form c.args.way.parent c.args.way.place) (λ m _ n. Settled (of g) c.args.way m Split n)
           (Changed (of g).form c.args.way.parent (replace_at c.args.way.place (entry_of g.K.Key.packed c.of_child-left.result))) _ _ _ _ (λ p.

@@ -1,4 +1,4 @@
-use Rattle.std.proofs.Common.{◌∙◌, sym, subst}
+use Rattle.std.proofs.Common.{◌∙◌, sym, subst, arith}
 use Rattle.copies.proofs.Exits.{raised, lost_later, kin_same}
 use Rattle.nodes.specs.Nodes.{Has}
 use Rattle.nodes.proofs.Rooms.{room_same}
@@ -19,7 +19,7 @@ returns-then-weight-limit g c = λ h.
       call = λ due.
           let at = a.call (heavier_word (of g) _ _ due.child) in
           let key = b.call (room_same _ _ _ _ at.same due.child.parent.room) in
-          read_plain (of g) _ _ _ _ _ _ _ _ _ at key c.min-low.ensures c.limit.ensures due _ _ c.if-weight-limit.true c.of_child-entry.ensures.weight c.of_child-entry.ensures.key c.of_child-entry.ensures.child
+          read_plain (of g) _ _ _ _ _ _ _ _ _ at key c.min-low.ensures c.limit.ensures due _ _ (omega (arith, c.if-weight-limit.true)) c.of_child-entry.ensures.weight c.of_child-entry.ensures.key c.of_child-entry.ensures.child
           (d.call (subst (Has _ _ _) (sym (key.same ∙ at.same)) (heavier_has (of g) _ _ due.child)));
       ready = d.ready;
     }
@@ -34,7 +34,7 @@ returns-in_err-divide g c =
       call = λ due.
           let at = a.call (heavier_word (of g) _ _ due.child) in
           let key = b.call (room_same _ _ _ _ at.same due.child.parent.room) in
-          lost_later (kin_same (key.same ∙ at.same)) (d.call (read_heavy (of g) _ _ _ _ _ _ _ _ _ at key c.min-low.ensures c.limit.ensures due c.if-weight-limit.false));
+          lost_later (kin_same (key.same ∙ at.same)) (d.call (read_heavy (of g) _ _ _ _ _ _ _ _ _ at key c.min-low.ensures c.limit.ensures due (omega (arith, c.if-weight-limit.false))));
       ready = d.ready;
     })
 
@@ -47,6 +47,6 @@ returns g c = λ h.
       call = λ due.
           let at = a.call (heavier_word (of g) _ _ due.child) in
           let key = b.call (room_same _ _ _ _ at.same due.child.parent.room) in
-          read_split (of g) _ _ _ _ _ _ _ _ _ at key c.min-low.ensures c.limit.ensures due _ (d.call (read_heavy (of g) _ _ _ _ _ _ _ _ _ at key c.min-low.ensures c.limit.ensures due c.if-weight-limit.false));
+          read_split (of g) _ _ _ _ _ _ _ _ _ at key c.min-low.ensures c.limit.ensures due _ (d.call (read_heavy (of g) _ _ _ _ _ _ _ _ _ at key c.min-low.ensures c.limit.ensures due (omega (arith, c.if-weight-limit.false))));
       ready = d.ready;
     }
