@@ -1,1 +1,4 @@
 pub mod Leaf
+pub mod Ranks
+pub mod Reports
+pub mod Writes

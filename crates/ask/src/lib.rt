@@ -2,3 +2,5 @@
 #![tactic(auto)]
 
 pub mod find;
+pub mod rank;
+pub mod report;
