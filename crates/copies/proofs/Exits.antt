@@ -1,11 +1,12 @@
 -- What the exit of a `?` returns, and how work begun earlier is lost. Assumes nothing.
-use Rattle.std.proofs.Common.{◌≡◌, ℕ, true, is_err, IsErrAnd, Ok, Err, Result, ap, ◌∙◌, subst, arith}
+use Rattle.std.proofs.Common.{◌≡◌, ℕ, ◌<◌, true, is_err, IsErrAnd, Ok, Err, Result, ap, ◌∙◌, subst, arith}
 use Rattle.std.proofs.lemmas.Bool.{both_ways}
 use Rattle.store.specs.declared.fault.Fault.{Fault}
 use Rattle.store.specs.declared.fault.Refusal.{Refusal}
 use Rattle.store.specs.declared.fault.Refusal.TheVariants.{Down}
 use Rattle.store.specs.Meaning.{Meaning, Fell, count, with_at}
-use Rattle.store.specs.Calls.{WordFails, SetDone, Set, Deep, Lost}
+use Rattle.store.specs.Calls.{TakeFails, TakeDone, Take, WordFails, SetDone, Set, Deep, Lost}
+use Rattle.store.specs.Calls.TakeFails.{take_down, take_full}
 use Rattle.store.specs.Calls.WordFails.{word_down, word_missing, word_outside}
 use Rattle.copies.specs.Work.{Work}
 use Rattle.copies.specs.Blocks.{Word, Edited, edit}
@@ -83,3 +84,30 @@ set_work_at m n b p x (Err y) h k d e f = λ q. word_lost q (fails_at h d e) k
 pub work_on : {A : Type 0} (P Q : Meaning → Type 0) (D E : Meaning → A → Meaning → Type 0) (l m n : Meaning) (r : Result A Fault) → (P l → Q m) → (P l → Kin l m) → ((a : A) → P l → E m a n → D l a n) → Work Q E m r n → Work P D l r n
 work_on P Q D E l m n (Ok a) q k f w = λ p. f a p (w (q p))
 work_on P Q D E l m n (Err e) q k f w = λ p. lost_later (k p) (w (q p))
+
+-- the same, where all is told at once
+pub work_then : {A : Type 0} (P Q : Meaning → Type 0) (D E : Meaning → A → Meaning → Type 0) (l m n : Meaning) (r : Result A Fault) → (P l → Q m × Kin l m × ((a : A) → E m a n → D l a n)) → Work Q E m r n → Work P D l r n
+work_then P Q D E l m n (Ok a) f w = λ p. let x = f p in x.2 a (w x.0)
+work_then P Q D E l m n (Err e) f w = λ p. let x = f p in lost_later x.1 (w x.0)
+
+-- where a block is free, taking one fails only by 'down'
+take_falls : {r : Refusal} {at : ℕ} {m n : Meaning} → count m < m.shape.capacity → TakeFails r at m n → (r ≡ Down) × Fell m n
+take_falls p (take_down e f) = (e, f)
+take_falls p (take_full e a h k) = absurd (omega arith)
+
+take_lost : {m n : Meaning} {f : Fault} → count m < m.shape.capacity → TakeFails f.refusal f.block m n → f.depth ≡ m.shape.depth f.refusal (count m) → Lost m f n
+take_lost {m} p w d =
+    let q = take_falls p w in
+    record {
+      refusal = q.0;
+      granted_then = count m;
+      deep = d ∙ ap (λ r. m.shape.depth r (count m)) q.0;
+      is_down = q.1.is_down;
+      same_shape = q.1.same_shape;
+      same_below = q.1.same_below;
+    }
+
+-- a block taken, as work
+pub take_work : (m n : Meaning) (r : Result ℕ Fault) → Take m r n → Deep m r → Work (λ z. count z < z.shape.capacity) TakeDone m r n
+take_work m n (Ok b) h d = λ p. h
+take_work m n (Err f) h d = λ p. take_lost p h d

@@ -1,4 +1,14 @@
 // A pair put into the tree.
+ghost use Rattle.std.specs.Prelude.{◌≡◌};
+ghost use Rattle.store.specs.Calls.{Leaves};
+ghost use Rattle.copies.specs.Work.{Work};
+ghost use Rattle.tree.specs.Tree.{adds};
+ghost use Rattle.balance.specs.Updates.{Decided};
+ghost use Rattle.held.specs.Held.{kind};
+ghost use Rattle.held.specs.Roots.{Stands, Becomes};
+ghost use Rattle.grow.specs.Surveys.{refusal};
+ghost use Rattle.grow.specs.Inserts.{Roomy, Grew};
+
 use crate::split::{raise, settle};
 use crate::survey::survey;
 use balance::down::way_down;
@@ -21,7 +31,9 @@ pub fn insert_below<K: Key, S: Store>(
     node: Node,
     key: &K,
     handle: u64,
-) -> Result<Marks, Fault> {
+) -> Result<Marks, Fault>
+    ensures { Leaves S.meaning S.ready (Work (Roomy (kind K.width K.cmp K.packed K.unpacked) node key.now) (Grew (kind K.width K.cmp K.packed K.unpacked) node key.now handle)) store.old result store.new }
+{
     if node.level == 0 {
         let place = keys_up_to(store, node.block, key)?;
         let entry = Entry {
@@ -39,7 +51,9 @@ pub fn insert_below<K: Key, S: Store>(
 }
 
 // Refuses an insertion before anything is written: present, then full, then no room.
-fn admit<K: Key, S: Store>(store: &mut S, tree: Tree, key: &K) -> Result<(), Fault> {
+fn admit<K: Key, S: Store>(store: &mut S, tree: Tree, key: &K) -> Result<(), Fault>
+    ensures { Leaves S.meaning S.ready (Decided (Stands (kind K.width K.cmp K.packed K.unpacked) tree.header) (refusal (kind K.width K.cmp K.packed K.unpacked) tree.header key.now) (λ m _ n. n ≡ m)) store.old result store.new }
+{
     let Header { root, keys } = tree.header;
     let Some(full) = survey(store, root, key)? else {
         return Err(refuse(Refusal::Present));
@@ -61,7 +75,9 @@ pub fn insert<K: Key, S: Store>(
     tree: Tree,
     key: &K,
     handle: u64,
-) -> Result<Updated, Fault> {
+) -> Result<Updated, Fault>
+    ensures { Leaves S.meaning S.ready (Decided (Stands (kind K.width K.cmp K.packed K.unpacked) tree.header) (refusal (kind K.width K.cmp K.packed K.unpacked) tree.header key.now) (Becomes (kind K.width K.cmp K.packed K.unpacked) tree.header (adds key.now handle))) store.old result store.new }
+{
     admit(store, tree, key)?;
     let Header { root, keys } = tree.header;
     let marks = insert_below(store, root, key, handle)?;

@@ -1,5 +1,10 @@
 // A child that grew: its entry corrected, and the child split where it weighs too much.
 ghost use Rattle.std.specs.Prelude.{◌≡◌, ◌+◌, ◌≤◌, IfOk};
+ghost use Rattle.store.specs.Calls.{Leaves};
+ghost use Rattle.copies.specs.Work.{Work};
+ghost use Rattle.held.specs.Held.{kind};
+ghost use Rattle.tree.specs.declared.mark.Mark.TheVariants.{Split};
+ghost use Rattle.grow.specs.Inserts.{TooHeavy, Due, Settled, Tall, Raised};
 
 use crate::root::take_root;
 use balance::cut::{Halves, halve};
@@ -16,7 +21,9 @@ use store::fault::Fault;
 use tree::mark::Mark;
 
 // Splits a child over its block and a new one; `low` is its smallest key.
-pub fn divide<K: Key, S: Store>(store: &mut S, way: Way, low: K) -> Result<(), Fault> {
+pub fn divide<K: Key, S: Store>(store: &mut S, way: Way, low: K) -> Result<(), Fault>
+    ensures { Leaves S.meaning S.ready (Work (TooHeavy (kind K.width K.cmp K.packed K.unpacked) way low) (λ m _ n. Settled (kind K.width K.cmp K.packed K.unpacked) way m Split n)) store.old result store.new }
+{
     let child = way.child.block;
     let halves: Halves<K> = halve(store, way.child)?;
     let fresh = store.take()?;
@@ -28,7 +35,9 @@ pub fn divide<K: Key, S: Store>(store: &mut S, way: Way, low: K) -> Result<(), F
 }
 
 // Corrects the entry of a child that `key` was put into, and splits the child if it weighs too much.
-pub fn settle<K: Key, S: Store>(store: &mut S, way: Way, key: K) -> Result<Mark, Fault> {
+pub fn settle<K: Key, S: Store>(store: &mut S, way: Way, key: K) -> Result<Mark, Fault>
+    ensures { Leaves S.meaning S.ready (Work (Due (kind K.width K.cmp K.packed K.unpacked) way key) (Settled (kind K.width K.cmp K.packed K.unpacked) way)) store.old result store.new }
+{
     let weight = entry_weight(store, way.parent, way.place)?;
     let low = entry_key::<K, S>(store, way.parent, way.place)?.min(key);
     if weight < limit(way.child.level) {
@@ -45,6 +54,7 @@ pub fn raise<K: Key, S: Store>(store: &mut S, root: Node, keys: u64) -> Result<N
     requires { root.level ≤ 4 }
     ensures block { IfOk result (λ top. (1 ≤ top.block) × (top.block ≤ 1048575)) }
     ensures level { IfOk result (λ top. top.level ≡ root.level + 1) }
+    ensures raises { Leaves S.meaning S.ready (Work (Tall (kind K.width K.cmp K.packed K.unpacked) root keys) (Raised (kind K.width K.cmp K.packed K.unpacked) root)) store.old result store.new }
 {
     let low: K = entry_key(store, root.block, 0)?;
     let top = take_root(store)?;

@@ -1,10 +1,13 @@
 -- What one store call, and one change of a block, do to grants and words.
-use Rattle.std.proofs.Common.{◌≡◌, ℕ, ◌+◌, ◌≤◌, Bool, true, false, eqb, [], ◌∷◌, sym, refl, ap, ◌∙◌, ⊎_elim, arith}
+use Rattle.std.proofs.Common.{◌≡◌, ℕ, ◌+◌, ◌≤◌, Bool, true, false, eqb, List, [], ◌∷◌, sym, refl, ap, ◌∙◌, ⊎_elim, arith}
 use Rattle.std.proofs.lemmas.Bool.{eq-eqb, ne_eqb, cond-true, cond-false, cases_eq}
 use Rattle.store.specs.Meaning.{Meaning, limit, count, free, with_at, with_block}
 use Rattle.store.specs.Calls.{TakeDone, GiveDone}
 use Rattle.store.specs.Laws.Changes.{with_at_here, with_at_other}
 use Rattle.store.specs.Laws.Counts.{count_more}
+use Rattle.copies.proofs.Exits.{Kin}
+use Rattle.nodes.specs.Places.{Form}
+use Rattle.nodes.specs.Nodes.{Room}
 use Rattle.held.specs.Held.{times, bit, Step}
 
 -- a grant that is counted is there
@@ -70,3 +73,11 @@ step_give m n b t = record {
   moved = λ c. omega (arith, bit_given m.granted b c t.granted, ap (λ z. bit (z.granted c)) t.after);
   kept = λ c h. ap (λ z. z.words c) t.after ∙ with_at_other m.words b (λ p. 0) c (λ q. absurd (omega (arith, cond-true {A = ℕ} (eqb c b) 1 0 (eq-eqb c b q), bit_most (m.granted c))));
 }
+
+-- a step is between two meanings of one store
+pub kin_step : (m n : Meaning) (F G : List ℕ) → Step m n F G → Kin m n
+kin_step m n F G s = record { shape = s.same_shape; below = s.same_below }
+
+-- a block with room for a node keeps it, unless it was given back
+pub room_step : (φ : Form) (b : ℕ) (m n : Meaning) (F G : List ℕ) → Step m n F G → times b F ≤ times b G → Room φ b m → Room φ b n
+room_step φ b m n F G s k r = record { granted = bit_true (n.granted b) (omega (arith, s.moved b, ap bit r.granted)); wide = omega (arith, r.wide, ap (λ z. z.width) s.same_shape) }

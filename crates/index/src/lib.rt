@@ -2,4 +2,5 @@
 #![tactic(auto)]
 
 pub mod index;
+pub mod laws;
 pub mod resume;

@@ -6,7 +6,12 @@ use Rattle.keys.specs.Documents.{packed, unpacked, word_at, bytes_of}
 use Rattle.keys.specs.Orders.{Words}
 use Rattle.keys.specs.Bytes.{word_back, bytes_back, gets_drop}
 use Rattle.keys.specs.Ranks.{both_equal, rank_equal}
-use Rattle.std.specs.Cmp.Lexicographic.{slice_cmp}
+use Rattle.std.specs.Cmp.Lexicographic.{slice_cmp, lists_total}
+use Rattle.std.specs.Cmp.{nat_cmp_total}
+use Rattle.keys.specs.Documents.{order}
+use Rattle.keys.specs.Orders.{Orderly}
+use Rattle.keys.specs.Alike.{documents}
+use Rattle.keys.specs.Totals.{orderly_by}
 
 pub same_bytes : (xs ys : List ℕ) → slice_cmp nat_cmp xs ys ≡ Equal → xs ≡ ys
 same_bytes [] [] e = refl
@@ -15,6 +20,9 @@ same_bytes (x ∷ xs) [] e = absurd (true≢false (ap is_gt e))
 same_bytes (x ∷ xs) (y ∷ ys) e =
     let b = both_equal _ _ e in
     (λ i. rank_equal x y b.0 i ∷ same_bytes xs ys b.1 i)
+
+pub documents_ordered : Orderly order
+documents_ordered = orderly_by (lists_total nat_cmp_total) (λ x. x.bytes) (λ x y e. documents x y (same_bytes x.bytes y.bytes e))
 
 pub forth_law : (ws : List ℕ) → length ws ≡ 4 → Words ws → packed (unpacked ws) ≡ ws
 forth_law [] e a = absurd (omega arith)

@@ -3,6 +3,16 @@ use Rattle.std.proofs.Common.{arith}
 use Rattle.std.specs.Int.Signed.{mag}
 use Rattle.keys.specs.Stamps.{packed, unpacked, biased, unbiased}
 use Rattle.keys.specs.Orders.{Words}
+use Rattle.std.specs.Cmp.{nat_cmp_total, int_cmp_total, then_total, on_total}
+use Rattle.keys.specs.Stamps.{order}
+use Rattle.keys.specs.Orders.{Orderly}
+use Rattle.keys.specs.Alike.{stamps}
+use Rattle.keys.specs.Ranks.{both_equal, rank_equal, int_rank_equal}
+use Rattle.keys.specs.Totals.{orderly_by}
+
+pub stamps_ordered : Orderly order
+stamps_ordered = orderly_by (then_total (on_total (λ (p : ℤ × ℕ). p.0) int_cmp_total) (on_total (λ (p : ℤ × ℕ). p.1) nat_cmp_total)) (λ x. (x.minute, x.serial))
+    (λ x y e. let b = both_equal _ _ e in stamps x y (int_rank_equal x.minute y.minute b.0) (rank_equal x.serial y.serial b.1))
 
 pub word_fits : (m : ℤ) → mag m < 2 ^ 63 → biased m < 2 ^ 64
 word_fits (pos n) h = omega arith

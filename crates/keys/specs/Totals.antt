@@ -40,3 +40,7 @@ orderly_by {R = R} t f apart = record {
   flops = λ x y e. t.antisymm (f y) (f x) ∙ ap ordering_reverse e;
   chain = λ x y z. t.trans (f x) (f y) (f z);
 }
+
+-- the laws of an order hold of the same order by another name
+pub same_order : {K : Type 0} {order other : K → K → Ordering} → Orderly order → other ≡ order → Orderly other
+same_order o e = subst Orderly (sym e) o

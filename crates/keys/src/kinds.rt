@@ -9,14 +9,11 @@ ghost use Rattle.keys.specs.Lawful.{checkpoints_ordered};
 ghost use Rattle.keys.specs.Checkpoints;
 ghost use Rattle.keys.specs.Alike.{checkpoints, stamps, documents};
 ghost use Rattle.keys.specs.CheckpointKeyLemmas.{forth_law};
-ghost use Rattle.std.specs.Cmp.{int_cmp_total, nat_cmp_total, then_total, on_total};
-ghost use Rattle.keys.specs.Ranks.{both_equal, rank_equal, int_rank_equal};
-ghost use Rattle.keys.specs.Totals.{orderly_by};
+ghost use Rattle.keys.specs.Totals.{same_order};
 ghost use Rattle.keys.specs.Stamps;
-ghost use Rattle.keys.specs.DueStampKeyLemmas.{word_fits, there_back};
+ghost use Rattle.keys.specs.DueStampKeyLemmas.{stamps_ordered, word_fits, there_back};
 ghost use Rattle.keys.specs.DueStampKeyLemmas;
-ghost use Rattle.std.specs.Cmp.Lexicographic.{lists_total};
-ghost use Rattle.keys.specs.DocumentNameKeyLemmas.{same_bytes, back_law};
+ghost use Rattle.keys.specs.DocumentNameKeyLemmas.{documents_ordered, back_law};
 ghost use Rattle.keys.specs.Documents;
 ghost use Rattle.keys.specs.Bytes;
 ghost use Rattle.keys.specs.DocumentNameKeyLemmas;
@@ -40,7 +37,7 @@ impl Key for Checkpoint {
 
     ghost unpacked = { checkpoint_unpacked };
 
-    ghost ordered = { checkpoints_ordered };
+    ghost ordered = { same_order checkpoints_ordered (Prim.search rules) };
 
     ghost packing = { record {
       some = Prim.search rules;
@@ -93,8 +90,7 @@ impl Key for DueStamp {
 
     ghost unpacked = { stamp_unpacked };
 
-    ghost ordered = { orderly_by (then_total (on_total (λ (p : ℤ × ℕ). p.0) int_cmp_total) (on_total (λ (p : ℤ × ℕ). p.1) nat_cmp_total)) (λ x. (x.minute, x.serial))
-        (λ x y e. let b = both_equal _ _ e in stamps x y (int_rank_equal x.minute y.minute b.0) (rank_equal x.serial y.serial b.1)) };
+    ghost ordered = { same_order stamps_ordered (Prim.search rules) };
 
     ghost packing = { record {
       some = Prim.search rules;
@@ -138,7 +134,7 @@ impl Key for DocumentName {
 
     ghost unpacked = { document_unpacked };
 
-    ghost ordered = { orderly_by (lists_total nat_cmp_total) (λ x. x.bytes) (λ x y e. documents x y (same_bytes x.bytes y.bytes e)) };
+    ghost ordered = { same_order documents_ordered (Prim.search rules) };
 
     ghost packing = { record {
       some = Prim.search rules;

@@ -21,8 +21,8 @@ module _ {map : List ℕ} {frames i : ℕ} {seen : List ℕ} (s : Seen map frame
       (and_cases (ltb x (length seen)) (eqb (get_or seen x 0) 0) e)
 
 -- the front of a map, judged for itself
-pub judged_front : (map : List ℕ) (n frames : ℕ) (t : Bool) → n ≤ length map → Judged (take n map) (length (take n map)) frames t → Judged map n frames t
-judged_front map n frames t h j = go t (subst (λ k. Judged (take n map) k frames t) same j)
+pub judged_front : (map front : List ℕ) (n frames k : ℕ) (t : Bool) → n ≤ length map → front ≡ take n map → k ≡ frames → Judged front (length front) k t → Judged map n frames t
+judged_front map front n frames k t h e q j = go t (subst (λ l. Judged (take n map) l frames t) same (rw (sym e, sym q) j))
   where
     same : length (take n map) ≡ n
     same = length-take n map ∙ omega (arith, h)

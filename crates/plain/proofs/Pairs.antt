@@ -1,5 +1,5 @@
 -- Plain lists of pairs in ascending order, by the parts below a key, about it and above it.
-use Rattle.std.proofs.Common.{◌≡◌, ℕ, Bool, true, false, cond, List, [], ◌∷◌, ◌++◌, is_some, Some, Ordering, Less, Equal, Greater, refl, ap}
+use Rattle.std.proofs.Common.{◌≡◌, ℕ, zero, suc, Bool, true, false, cond, List, [], ◌∷◌, ◌++◌, take, drop, is_some, Some, Ordering, Less, Equal, Greater, refl, ap}
 use Rattle.std.proofs.lemmas.Bool.{false≢true, true≢false}
 use Rattle.std.specs.Ordering.{is_le, is_eq}
 use Rattle.std.specs.List.{AllByRecursion}
@@ -28,6 +28,13 @@ module _ {K : Type 0} (order : K → K → Ordering) where
       go : (b : Bool) → put order k h (xs ++ ys) ≡ put order k h xs ++ ys → cond b (x ∷ put order k h (xs ++ ys)) (record { key = k; handle = h } ∷ x ∷ xs ++ ys) ≡ cond b (x ∷ put order k h xs) (record { key = k; handle = h } ∷ x ∷ xs) ++ ys
       go true ih = ap (λ l. x ∷ l) ih
       go false ih = refl
+
+  -- where the keys at most k are the first r
+  pub put_place : (k : K) (h : ℕ) (xs : List (Pair K)) (r : ℕ) → AllByRecursion (λ p. is_le (order p.key k) ≡ true) (take r xs) → AllByRecursion (λ p. order p.key k ≡ Greater) (drop r xs) → put order k h xs ≡ take r xs ++ (record { key = k; handle = h } ∷ drop r xs)
+  put_place k h [] zero a b = refl
+  put_place k h [] (suc r) a b = refl
+  put_place k h (x ∷ xs) zero a b = rw b.0 refl
+  put_place k h (x ∷ xs) (suc r) a b = rw a.0 (ap (λ l. x ∷ l) (put_place k h xs r a.1 b))
 
   pub find_after : (k : K) (xs ys : List (Pair K)) → Low k xs → find order k (xs ++ ys) ≡ find order k ys
   find_after k [] ys a = refl

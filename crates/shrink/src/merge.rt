@@ -1,4 +1,10 @@
 // Two siblings made one, or shared out anew over their two blocks.
+ghost use Rattle.std.specs.Prelude.{◌-◌};
+ghost use Rattle.store.specs.Calls.{Leaves};
+ghost use Rattle.copies.specs.Work.{Work};
+ghost use Rattle.held.specs.Held.{kind};
+ghost use Rattle.shrink.specs.Merges.{Neighbours, Looked, Mergeable, Merged, Shareable, Shared, Fused};
+
 use balance::cut::{Halves, halve};
 use balance::limits::limit;
 use balance::way::Way;
@@ -27,7 +33,9 @@ fn neighbours<K: Key, S: Store>(
     parent: u32,
     place: u32,
     level: u32,
-) -> Result<Siblings<K>, Fault> {
+) -> Result<Siblings<K>, Fault>
+    ensures { Leaves S.meaning S.ready (Work (Neighbours (kind K.width K.cmp K.packed K.unpacked) parent (place - 1) level) (Looked (kind K.width K.cmp K.packed K.unpacked) parent (place - 1) level)) store.old result store.new }
+{
     let place = place.saturating_sub(1);
     let n = count(store, parent)?;
     if n < 2 || place > n - 2 {
@@ -61,7 +69,9 @@ fn neighbours<K: Key, S: Store>(
 }
 
 // Makes the left block hold both nodes, and gives the right block back.
-fn merge<K: Key, S: Store>(store: &mut S, pair: &Siblings<K>) -> Result<(), Fault> {
+fn merge<K: Key, S: Store>(store: &mut S, pair: &Siblings<K>) -> Result<(), Fault>
+    ensures { Leaves S.meaning S.ready (Work (Mergeable (kind K.width K.cmp K.packed K.unpacked) pair.now) (Merged (kind K.width K.cmp K.packed K.unpacked) pair.now)) store.old result store.new }
+{
     let Siblings { left, right, .. } = *pair;
     append_all::<K, S>(store, right.child.block, left.child.block)?;
     remove_entry::<K, S>(store, right.parent, right.place)?;
@@ -71,7 +81,9 @@ fn merge<K: Key, S: Store>(store: &mut S, pair: &Siblings<K>) -> Result<(), Faul
 }
 
 // Shares the entries of both out anew, as a node of all of them is split, over the same two blocks.
-fn share<K: Key, S: Store>(store: &mut S, pair: &Siblings<K>) -> Result<(), Fault> {
+fn share<K: Key, S: Store>(store: &mut S, pair: &Siblings<K>) -> Result<(), Fault>
+    ensures { Leaves S.meaning S.ready (Work (Shareable (kind K.width K.cmp K.packed K.unpacked) pair.now) (Shared (kind K.width K.cmp K.packed K.unpacked) pair.now)) store.old result store.new }
+{
     let Siblings { left, right, .. } = *pair;
     append_all::<K, S>(store, right.child.block, left.child.block)?;
     let halves: Halves<K> = halve(store, left.child)?;
@@ -89,7 +101,9 @@ pub fn mend<K: Key, S: Store>(
     parent: u32,
     place: u32,
     level: u32,
-) -> Result<Mark, Fault> {
+) -> Result<Mark, Fault>
+    ensures { Leaves S.meaning S.ready (Work (Neighbours (kind K.width K.cmp K.packed K.unpacked) parent (place - 1) level) (Fused (kind K.width K.cmp K.packed K.unpacked) parent (place - 1) level)) store.old result store.new }
+{
     let pair: Siblings<K> = neighbours(store, parent, place, level)?;
     if pair.weight > limit(level) / 8 * 7 {
         share(store, &pair)?;

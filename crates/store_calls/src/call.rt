@@ -3,7 +3,7 @@ use std::alloc::{AllocError, Global};
 use std::fmt;
 use std::fmt::Write;
 use store::blocks::{LARGEST_BLOCK, Stock, Store};
-use store::fault::Fault;
+use store::fault::{Fault, Unmade};
 
 // A call. A block is named by when it was taken: 1 is the first take that was granted.
 #[derive(Clone, Copy)]
@@ -41,19 +41,17 @@ impl fmt::Display for Reply {
 // A call has to give a number even where it names no block, and no store grants this one.
 const NEVER: u32 = LARGEST_BLOCK + 1;
 
-// The same calls made on one store after the other: the blocks of the takes so far, and a line for each answer. A
-// block that is granted anew is named by its last take alone.
+// The calls made on one pile: the blocks of the takes so far, and a line for each answer. A block that is granted anew is
+// named by its last take alone.
 #[derive(Drop)]
-pub(crate) struct Session<'a> {
-    calls: &'a [Call],
+pub(crate) struct Session {
     taken: Vec<Option<u32>>,
     text: String,
 }
 
-impl<'a> Session<'a> {
-    pub(crate) fn new(heap: Global, calls: &'a [Call]) -> Session<'a> {
+impl Session {
+    pub(crate) fn new(heap: Global) -> Session {
         Session {
-            calls,
             taken: Vec::new(heap),
             text: String::new(heap),
         }
@@ -97,12 +95,8 @@ impl<'a> Session<'a> {
         }
     }
 
-    // One call on a store, and the line of its answer.
-    fn answer<S: Store>(&mut self, store: &mut S, call: Call) -> Result<(), AllocError> {
-        let reply = self.make(store, call);
-        if let Ok(Reply::Taken(block)) = reply {
-            self.note(block)?;
-        }
+    // Writes the line of an answer.
+    fn write(&mut self, reply: Result<Reply, Fault>) -> Result<(), AllocError> {
         match reply {
             Ok(reply) => writeln!(self.text, "{reply}"),
             Err(fault) => writeln!(
@@ -114,19 +108,44 @@ impl<'a> Session<'a> {
         }
     }
 
-    // Makes those calls on a store that are wanted.
-    pub(crate) fn make_those<S: Store, F: Fn(&Call) -> bool>(
+    // One call on a store, and the line of its answer.
+    fn answer<S: Store>(&mut self, store: &mut S, call: Call) -> Result<(), AllocError> {
+        let reply = self.make(store, call);
+        if let Ok(Reply::Taken(block)) = reply {
+            self.note(block)?;
+        }
+        self.write(reply)
+    }
+
+    // Makes calls on a store.
+    pub(crate) fn answers<S: Store>(
         &mut self,
         store: &mut S,
-        wanted: F,
-    ) -> Result<(), AllocError>
-        requires { F.IsAlwaysCallable wanted }
-    {
-        for call in self.calls {
-            if wanted(call) {
-                self.answer(store, *call)?;
-            }
+        calls: &[Call],
+    ) -> Result<(), AllocError> {
+        for call in calls {
+            self.answer(store, *call)?;
         }
         Ok(())
+    }
+
+    // Writes how layers came off.
+    pub(crate) fn taken_off(&mut self, ended: Result<(), Fault>) -> Result<(), AllocError> {
+        self.write(ended.map(|()| Reply::Done))
+    }
+
+    // The capacity at the end. Where there is no store or no layer it is 0, and the line says why.
+    pub(crate) fn ended(&mut self, played: Result<Stock, Unmade>) -> Result<usize, AllocError> {
+        match played {
+            Ok(stock) => return Ok(stock.capacity as usize),
+            Err(Unmade::Refused(fault)) => self.write(Err(fault))?,
+            Err(Unmade::NoMemory) => writeln!(self.text, "no memory")?,
+        }
+        Ok(0)
+    }
+
+    // Writes how many marks and words a store left alone.
+    pub(crate) fn spared(&mut self, marks: usize, words: usize) -> Result<(), AllocError> {
+        writeln!(self.text, "spared {marks} marks, {words} words")
     }
 }

@@ -1,4 +1,4 @@
-// The calls of a text, one to a line: take, give B, get B P, set B P W, stock.
+// The calls of a text, one to a line: take, give B, get B P, set B P W, stock. A blank line stands between two parts.
 use crate::call::Call;
 use std::alloc::{AllocError, Global};
 
@@ -28,7 +28,11 @@ fn parse_line(line: &str) -> Call {
     }
 }
 
-// The calls of all lines.
-pub fn parse(heap: Global, text: &str) -> Result<Vec<Call>, AllocError> {
-    text.lines().map(parse_line).collect(heap)
+// The calls of all lines, part after part.
+pub fn parse(heap: Global, text: &str) -> Result<Vec<Vec<Call>>, AllocError> {
+    let mut parts = Vec::new(heap);
+    for part in text.split("\n\n") {
+        parts.push(part.lines().map(parse_line).collect(heap)?)?;
+    }
+    Ok(parts)
 }

@@ -1,19 +1,18 @@
 -- What each call of a store in lent memory answers, from what its code does to the fields.
-use Rattle.std.proofs.Common.{◌≡◌, ℕ, ◌+◌, ◌-◌, ◌<◌, ◌≤◌, min, true, List, length, get_or, set, Ok, Err, Result, None, sym, refl, ap, ◌∙◌, subst, ap₂, ⊎_elim, arith}
+use Rattle.std.proofs.Common.{◌≡◌, ℕ, ◌+◌, ◌-◌, ◌<◌, ◌≤◌, min, true, List, length, get_or, set, None, sym, refl, ap, ◌∙◌, subst, ap₂, ⊎_elim, arith}
 use Rattle.std.proofs.lemmas.List.{length-set}
-use Rattle.store.specs.declared.fault.Refused.{Refused}
 use Rattle.store.specs.declared.fault.Refusal.TheVariants.{NoRoom}
 use Rattle.store.specs.Meaning.{Meaning, limit, count_to}
 use Rattle.store.specs.Calls.{Told, TakeDone, TakeFails, GiveDone, SetDone}
 use Rattle.stores.specs.declared.grants.Grants.{Grants}
 use Rattle.stores.specs.declared.lent.LentStore.{LentStore}
-use Rattle.stores.specs.declared.lent.Runs.{Runs}
 use Rattle.stores.specs.Table.{in_use, laid, blank, wiped, unmarked}
-use Rattle.stores.specs.Plan.{Plan, block_at, Suits, StoreFits}
+use Rattle.stores.specs.Plan.{Plan, block_at, StoreFits}
 use Rattle.stores.specs.Located.{Found}
 use Rattle.stores.specs.Grants.{Removing, Clearing, Counting, Spare, Free}
-use Rattle.stores.specs.Opened.{means, Ready, Fresh, Reopened, ReopenedOr, StillMeans}
+use Rattle.stores.specs.Opened.{means, Ready, Fresh, Reopened}
 use Rattle.stores.specs.Steps.{Becomes, Put, Cleared, Granting, Over}
+use Rattle.stores.specs.Touched.{Marked}
 use Rattle.stores.specs.Laws.Clearing.{wiped_none, wiped_more, wiped_length, cleared_length}
 use Rattle.stores.specs.Laws.Laid.{one_less, one_more, laid_blank, count_blank, count_capacity, count_marked}
 use Rattle.stores.specs.Laws.Plans.{Lawful}
@@ -79,6 +78,16 @@ module _ {L E : Type 0} (plan : L → Plan E) where
         words_are = p.words_are ∙ ap₂ (λ xs k. set xs k 0) d.words_are here ∙ sym (wiped_more at s.words.now n);
       }
 
+  -- the mark of the block in a slot was set, and its words cleared
+  pub marked : {s t : LentStore L} (slot b : ℕ) → b ≡ slot + 1 → Granting plan s slot t → Marked plan s t b
+  marked {s} {t} slot b e d =
+      let back : slot ≡ b - 1 = omega arith in
+      record {
+        byte = 1;
+        some = λ z. absurd (omega arith);
+        runs = subst (λ q. Becomes s t (min (s.grants.granted + 1) 4294967295) (set s.grants.marks.now q 1) (wiped ((plan s.layout).at s.width q) s.width s.words.now)) back d;
+      }
+
   module _ (s : LentStore L) (law : Lawful (plan s.layout)) (f : Ready plan s) where
     -- a word changed
     pub put_word : {t : LentStore L} {b place i v : ℕ} → Found (block_at (plan s.layout) s.width) s.width s.grants.capacity s.grants.marks.now b place i → Put s i v t → Told (SetDone (means plan s) b place v (means plan t)) (Unit {0}) (Ready plan t)
@@ -89,9 +98,9 @@ module _ {L E : Type 0} (plan : L → Plan E) where
     }
 
     -- a block given back
-    pub gave_block : {t : Grants} {b : ℕ} → in_use s.grants.capacity s.grants.marks.now b ≡ true → Removing s.grants (b - 1) t → Told (GiveDone (means plan s) b (means plan (record s { grants = t }))) (Unit {0}) (Ready plan (record s { grants = t }))
-    gave_block {t = t} {b = b} u r =
-        let d = noted {s = s} {t = t} r.capacity_is r.granted_is r.marks_are in
+    pub gave_block : {t : Grants} {b slot : ℕ} → in_use s.grants.capacity s.grants.marks.now b ≡ true → slot ≡ b - 1 → Removing s.grants slot t → Told (GiveDone (means plan s) b (means plan (record s { grants = t }))) (Unit {0}) (Ready plan (record s { grants = t }))
+    gave_block {t = t} {b = b} u e r =
+        let d = noted {s = s} {t = t} r.capacity_is r.granted_is (r.marks_are ∙ ap (λ k. set s.grants.marks.now k 0) e) in
         record {
           call = gave (law.lies f) u (becomes_means d);
           deep = tt;
@@ -108,7 +117,7 @@ module _ {L E : Type 0} (plan : L → Plan E) where
         h
 
     -- a block taken, at the slot p
-    module _ {t : LentStore L} (p : ℕ) (at : Spare s.grants p) (d : Granting plan s p t) where
+    module _ {t : LentStore L} (p b : ℕ) (e : b ≡ p + 1) (at : Spare s.grants p) (d : Granting plan s p t) where
       back : p + 1 - 1 ≡ p
       back = omega arith
 
@@ -120,9 +129,9 @@ module _ {L E : Type 0} (plan : L → Plan E) where
           one_more (law.lies f) (p + 1) (omega arith) (omega (arith, at.free.low)) (was_free (law.lies f) p at.free.low at.free.unused) at.few
           ∙ ap (λ q. count_to (in_use s.grants.capacity (set s.grants.marks.now q 1)) limit) back
 
-      pub took_block : Told (TakeDone (means plan s) (p + 1) (means plan t)) (Unit {0}) (Ready plan t)
+      pub took_block : Told (TakeDone (means plan s) b (means plan t)) (Unit {0}) (Ready plan t)
       took_block = record {
-        call = took (law.lies f) p at.free.low at.free.unused at.few after;
+        call = subst (λ k. TakeDone (means plan s) k (means plan t)) (sym e) (took (law.lies f) p at.free.low at.free.unused at.few after);
         deep = tt;
         ready = becomes_ready d (refits f (min (s.grants.granted + 1) 4294967295) (set s.grants.marks.now p 1) (wiped ((plan s.layout).at s.width p) s.width s.words.now) (length-set s.grants.marks.now p 1) (wiped_length ((plan s.layout).at s.width p) s.words.now s.width) counts);
       }
@@ -175,22 +184,3 @@ module _ {L E : Type 0} (plan : L → Plan E) where
           marks_left = r.marks_are ∙ o.marks_are;
           words_left = o.words_are;
         }
-
-  -- a ready store whose runs are opened again
-  pub reopen_means : (s : LentStore L) (l : L) (marks words : List ℕ) (r : Result (LentStore L) (Refused E (Runs L))) → Lawful (plan s.layout) → l ≡ s.layout → marks ≡ s.grants.marks.now → words ≡ s.words.now → ReopenedOr plan s.width l marks words r → Ready plan s → StillMeans plan s r
-  reopen_means s l marks words (Ok t) law m d e h f = record {
-    ready = h.ready;
-    same = h.same
-        ∙ ap (λ x. mean x s.width ((plan x).most s.width (length marks) (length words)) marks words) m
-        ∙ ap₂ (λ k v. mean s.layout s.width ((plan s.layout).most s.width (length k) (length v)) k v) d e
-        ∙ ap (λ k. mean s.layout s.width k s.grants.marks.now s.words.now) (sym f.whole);
-  }
-  reopen_means s l marks words (Err u) law m d e h f = record {
-    cause = law.spared (suits f) (rw (sym m, sym d, sym e) h.because);
-    layout_left = h.layout_left ∙ m;
-    marks_left = h.marks_left ∙ d;
-    words_left = h.words_left ∙ e;
-  }
-    where
-      suits : Ready plan s → Suits (plan s.layout) s.width (length s.grants.marks.now) (length s.words.now) s.grants.capacity
-      suits f = record { wide = f.wide; narrow = f.narrow; whole = f.whole; apt = f.apt }

@@ -5,4 +5,5 @@ pub mod Located
 pub mod Grants
 pub mod Opened
 pub mod Steps
+pub mod Touched
 pub mod Laws

@@ -65,3 +65,7 @@ module _ {L E : Type 0} (plan : L → Plan E) where
   abbrev pub StillMeans : LentStore L → Result (LentStore L) (Refused E (Runs L)) → Type 0
   StillMeans s (Ok t) = Means (means s) t
   StillMeans s (Err u) = Starved s u
+
+  -- runs that, opened again with the width of s, give a store that means what s means, unless the cause is no fault of theirs
+  abbrev pub OpenAgain : LentStore L → Runs L → Type 0
+  OpenAgain s runs = (r : Result (LentStore L) (Refused E (Runs L))) → ReopenedOr s.width runs.layout runs.marks.now runs.words.now r → StillMeans s r

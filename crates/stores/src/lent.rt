@@ -1,7 +1,9 @@
 // A block store in two lent runs: the words of all blocks, and a mark for each block. A layout tells where the words of
 // each block stand. A word past the end of the run reads as 0.
 ghost use Rattle.std.specs.Prelude.{◌≡◌, slice_index};
-ghost use Rattle.stores.specs.Opened.{means, Ready, FreshOr, ReopenedOr, StillMeans};
+ghost use Rattle.store.specs.Calls.{Keeps, Take, Give, Get, Set, Stocked};
+ghost use Rattle.stores.specs.Touched.{Untouched, TakeLeaves, GiveLeaves, SetLeaves};
+ghost use Rattle.stores.specs.Opened.{means, Ready, FreshOr, ReopenedOr, StillMeans, OpenAgain};
 ghost use Rattle.stores.specs.Steps.{Put, Wiping, Granting, OverOr, LocatedIn};
 ghost use Rattle.stores.specs.Laws.Plans.{plan_sound};
 
@@ -42,6 +44,7 @@ impl<'a, L: Layout> LentStore<'a, L> {
     }
 
     // A store over runs as they were left: its grants are those that the marks tell.
+    #[tactic(auto, using(crate::proofs::LentCalls::made_again))]
     pub fn reopen(
         runs: Runs<'a, L>,
         width: u32,
@@ -53,11 +56,13 @@ impl<'a, L: Layout> LentStore<'a, L> {
         Ok(store)
     }
 
-    // Ends the store, and yields its runs.
+    // Ends the store, and yields its runs. Those of a ready store, opened again with its width, mean what it meant, unless
+    // what is no fault of the runs refuses them.
     pub fn into_runs(self) -> Runs<'a, L>
         ensures words { result.words.now ≡ self.entry.words.now }
         ensures marks { result.marks.now ≡ self.entry.grants.marks.now }
         ensures layout { result.layout ≡ self.entry.layout }
+        ensures again { Ready L.plan self.entry → OpenAgain L.plan self.entry result }
     {
         let LentStore {
             words,
@@ -72,8 +77,7 @@ impl<'a, L: Layout> LentStore<'a, L> {
         }
     }
 
-    // Ends the store, and opens its runs again: of a ready store only what is no fault of the runs refuses this, and
-    // it means the same.
+    // Ends the store, and opens its runs again.
     pub fn reopened(self) -> Result<LentStore<'a, L>, Refused<L::Cause, Runs<'a, L>>>
         ensures { Ready L.plan self.entry → StillMeans L.plan self.entry result }
     {
@@ -110,6 +114,7 @@ impl<'a, L: Layout> LentStore<'a, L> {
     }
 
     // Where a word of a granted block stands in the run.
+    #[tactic(auto, using(crate::specs::Laws::Laid::used_parts))]
     fn locate(&self, block: u32, place: u32) -> Result<usize, Fault>
         ensures { LocatedIn L.plan self.now block place result }
     {
@@ -160,7 +165,10 @@ impl<'a, L: Layout> Store for LentStore<'a, L> {
 
     ghost sound = { λ s f. plan_sound (L.Layout.lawful s.layout) f };
 
-    fn take(&mut self) -> Result<u32, Fault> {
+    fn take(&mut self) -> Result<u32, Fault>
+        ensures keeps { Keeps (means L.plan) (Ready L.plan) Take self.old result self.new }
+        ensures runs { TakeLeaves L.plan self.old result self.new }
+    {
         let Some(slot) = self.grants.free_slot() else {
             return Err(Fault::own(Refusal::NoRoom, 0));
         };
@@ -168,7 +176,11 @@ impl<'a, L: Layout> Store for LentStore<'a, L> {
         Ok(slot + 1)
     }
 
-    fn give_back(&mut self, block: u32) -> Result<(), Fault> {
+    #[tactic(auto, using(crate::specs::Laws::Laid::used_parts))]
+    fn give_back(&mut self, block: u32) -> Result<(), Fault>
+        ensures keeps { Keeps (means L.plan) (Ready L.plan) (Give block) self.old result self.new }
+        ensures runs { GiveLeaves block self.old result self.new }
+    {
         if !self.grants.has(block) {
             return Err(Fault::own(Refusal::NotGranted, block));
         }
@@ -176,18 +188,28 @@ impl<'a, L: Layout> Store for LentStore<'a, L> {
         Ok(())
     }
 
-    fn get(&mut self, block: u32, place: u32) -> Result<u64, Fault> {
+    #[tactic(auto, using(crate::proofs::LaidCalls::got))]
+    fn get(&mut self, block: u32, place: u32) -> Result<u64, Fault>
+        ensures keeps { Keeps (means L.plan) (Ready L.plan) (Get block place) self.old result self.new }
+        ensures runs { Untouched self.old self.new }
+    {
         let at = self.locate(block, place)?;
         Ok(self.word(at))
     }
 
-    fn set(&mut self, block: u32, place: u32, word: u64) -> Result<(), Fault> {
+    fn set(&mut self, block: u32, place: u32, word: u64) -> Result<(), Fault>
+        ensures keeps { Keeps (means L.plan) (Ready L.plan) (Set block place word) self.old result self.new }
+        ensures runs { SetLeaves L.plan block place word self.old result self.new }
+    {
         let at = self.locate(block, place)?;
         self.put(at, word);
         Ok(())
     }
 
-    fn stock(&mut self) -> Result<Stock, Fault> {
+    fn stock(&mut self) -> Result<Stock, Fault>
+        ensures keeps { Keeps (means L.plan) (Ready L.plan) Stocked self.old result self.new }
+        ensures runs { Untouched self.old self.new }
+    {
         Ok(Stock {
             width: self.width,
             granted: self.grants.granted,

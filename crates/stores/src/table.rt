@@ -15,13 +15,14 @@ pub struct Rows;
 
 pub type TableStore<'a> = LentStore<'a, Rows>;
 
-// The most whole blocks that so many marks and words hold.
+// The most whole blocks that so many marks and words hold: of blocks without words, none.
 #[tactic(auto, unfolding(store::specs::Meaning::limit))]
 pub fn most(width: u32, marks: usize, words: usize) -> u32
-    requires { 1 ≤ width }
     ensures { result ≡ most_blocks width marks words }
 {
-    (words / width as usize)
+    words
+        .checked_div(width as usize)
+        .unwrap_or(0)
         .min(marks)
         .min(LARGEST_BLOCK as usize) as u32
 }

@@ -13,7 +13,7 @@ use Rattle.tree.proofs.Levels.{kids}
 use Rattle.tree.proofs.Insert.{inserted}
 
 -- one more than w is too much exactly where w is the limit
-over_full : (w m : ℕ) → w ≤ m → ltb m (suc w) ≡ eqb w m
+pub over_full : (w m : ℕ) → w ≤ m → ltb m (suc w) ≡ eqb w m
 over_full w m h = grind arith
 
 split_nodes : (K : Type 0) (unit : ℕ → ℕ) (l m : ℕ) (x : Item K (suc l)) → total (nodes K (suc l)) (split_above K unit l m x) ≡ cond (ltb m (weight K (suc l) x)) 1 0 + nodes K (suc l) x
@@ -133,7 +133,7 @@ module _ {K : Type 0} (order : K → K → Ordering) (unit : ℕ → ℕ) where
   pub gives_back : (t : Tree K) (k : K) → blocks K (updated order unit t (drops k)) + given_back order unit k t ≡ blocks K t
   gives_back t k = omega (arith, del_nodes t.level k t.root, lowered_nodes K unit t.level (del order unit t.level k t.root))
 
-  ins_high : (j l : ℕ) (k : K) (h : ℕ) (x : Item K (suc l)) → l ≤ j → ins_mark order unit j l k h x ≡ Nothing
+  pub ins_high : (j l : ℕ) (k : K) (h : ℕ) (x : Item K (suc l)) → l ≤ j → ins_mark order unit j l k h x ≡ Nothing
   ins_high j zero k h x p = refl
   ins_high j (suc l) k h [] p = refl
   ins_high j (suc l) k h (c ∷ cs) p = rw (ne_eqb j l (λ e. omega arith)) (ins_high j l k h (route order (suc l) k c cs).here (omega arith))

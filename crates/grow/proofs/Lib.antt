@@ -1,0 +1,9 @@
+pub mod Admitting
+pub mod Dividing
+pub mod Growing
+pub mod Inserting
+pub mod Leaf
+pub mod Looks
+pub mod Raising
+pub mod Settling
+pub mod Smallest

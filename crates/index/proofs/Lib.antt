@@ -1,0 +1,5 @@
+pub mod Queries
+pub mod Resumes
+pub mod Creates
+pub mod Updates
+pub mod Granted

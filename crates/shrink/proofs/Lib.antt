@@ -1,0 +1,11 @@
+pub mod Back
+pub mod Cutting
+pub mod Deleting
+pub mod Fusing
+pub mod Lowering
+pub mod Mending
+pub mod Merging
+pub mod Pairing
+pub mod Settling
+pub mod Sharing
+pub mod Shrinking
