@@ -152,7 +152,8 @@ fn count_within<K: Key, S: Store>(
     Ok(up_to(store, root, high)?.saturating_sub(below))
 }
 
-// Writes the pairs from `low` to `high`, as many as fit, and says how many there are.
+// Writes the pairs from `low` to `high`, as many as fit, and says how many there are. Refused where the lent keys and
+// handles differ in length; where the store says 'down', the places written so far are told.
 pub fn report<K: Key, S: Store>(
     store: &mut S,
     root: Node,
@@ -161,7 +162,7 @@ pub fn report<K: Key, S: Store>(
     keys: &mut [K],
     handles: &mut [u64],
 ) -> Result<u64, Stopped>
-    ensures within { IfErr result (λ e. e.written ≤ length keys.old) }
+    ensures bound { IfErr result (λ e. e.written ≤ length keys.old) }
     ensures uneven { length keys.old ≢ length handles.old → (result ≡ Err (record { fault = own_refusal Uneven; written = 0 })) × (keys.new ≡ keys.old) × (handles.new ≡ handles.old) × (store.new ≡ store.old) }
     ensures reports { length keys.old ≡ length handles.old → Leaves S.meaning S.ready (Reports (kind K.width K.cmp K.packed K.unpacked) root low.now high.now keys.old handles.old keys.new handles.new) store.old result store.new }
 {
