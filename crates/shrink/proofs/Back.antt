@@ -1,5 +1,5 @@
 -- A block given back, as work; and what a change of one block leaves as it was.
-use Rattle.std.proofs.Common.{◌≡◌, ℕ, true, List, Ok, Err, Result, ap, ◌∙◌}
+use Rattle.std.proofs.Common.{◌≡◌, ℕ, true, List, Ok, Err, Result, ap, ◌∙◌, subst}
 use Rattle.std.proofs.lemmas.Bool.{both_ways}
 use Rattle.store.specs.declared.fault.Fault.{Fault}
 use Rattle.store.specs.declared.fault.Refusal.{Refusal}
@@ -10,7 +10,7 @@ use Rattle.store.specs.Calls.GiveFails.{give_down, give_missing}
 use Rattle.copies.specs.Work.{Work}
 use Rattle.copies.proofs.Exits.{Kin}
 use Rattle.nodes.specs.Places.{Form}
-use Rattle.nodes.specs.Nodes.{Entry, Holds}
+use Rattle.nodes.specs.Nodes.{Entry, Holds, Room}
 use Rattle.held.specs.Held.{Step}
 
 -- a granted block is refused only by 'down'
@@ -42,3 +42,11 @@ kin_step s = record { shape = s.same_shape; below = s.same_below }
 
 pub kin_then : {l m n : Meaning} → Kin l m → Kin m n → Kin l n
 kin_then a b = record { shape = b.shape ∙ a.shape; below = b.below ∙ a.below }
+
+-- room in a block by another name of its number
+pub room_at : (φ : Form) (b c : ℕ) (m : Meaning) → b ≡ c → Room φ b m → Room φ c m
+room_at φ b c m e h = subst (λ z. Room φ z m) e h
+
+-- a block given back, by another name of its number
+pub give_at : (b c : ℕ) (m n : Meaning) (r : Result (Unit {0}) Fault) → b ≡ c → Give b m r n → Give c m r n
+give_at b c m n r e h = subst (λ z. Give z m r n) e h

@@ -2,6 +2,7 @@ use Rattle.std.proofs.Common.{◌∙◌, arith}
 use Rattle.copies.proofs.Exits.{raised, lost_later, kin_same}
 use Rattle.nodes.proofs.Rooms.{room_same}
 use Rattle.held.specs.Held.{Kind, kind, Lawful}
+use Rattle.shrink.proofs.Back.{room_at}
 use Rattle.shrink.proofs.Settling.{stale_word, stale_room, stale_has, corrected, settled_heavy, settle_ends}
 use Rattle.shrink.proofs.delete.settle.Given as given
 use Rattle.shrink.proofs.delete.settle.Goals as goal
@@ -18,7 +19,7 @@ returns-in_err-low g c =
     let a = c.in_ok-entry_weight.ensures h in
     let b = c.in_err-low.ensures a.ready in
     record {
-      call = λ p. let x = a.call (stale_word (of g) (law g) _ _ p) in lost_later (kin_same x.same) (b.call (room_same _ _ _ _ x.same (stale_room (of g) (law g) _ _ p)));
+      call = λ p. let x = a.call (stale_word (of g) (law g) _ _ p) in lost_later (kin_same x.same) (b.call (room_at _ _ _ _ (omega arith) (room_same _ _ _ _ x.same (stale_room (of g) (law g) _ _ p))));
       ready = b.ready;
     })
 

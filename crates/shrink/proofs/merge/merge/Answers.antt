@@ -1,7 +1,7 @@
-use Rattle.std.proofs.Common.{◌≤◌, lit≤}
+use Rattle.std.proofs.Common.{◌≤◌, lit≤, arith}
 use Rattle.copies.proofs.Exits.{raised, lost_later}
 use Rattle.held.specs.Held.{Kind, kind, Lawful}
-use Rattle.shrink.proofs.Back.{kin_holds, kin_then}
+use Rattle.shrink.proofs.Back.{kin_holds, kin_then, give_at}
 use Rattle.shrink.proofs.Merging.{pair_joinable, pair_has_right, pair_has_left, merge_ends}
 use Rattle.shrink.proofs.merge.merge.Given as given
 use Rattle.shrink.proofs.merge.merge.Goals as goal
@@ -59,6 +59,6 @@ returns g c = λ h.
           let j = a.call (pair_joinable (of g) (law g) many _ _ p) in
           let k = b.call (pair_has_right (of g) (law g) many _ _ p _ j) in
           record { join = j; less = k; put = r.call (pair_has_left (of g) (law g) many _ _ p _ _ j k) })
-          v.call v.deep;
+          (give_at _ _ _ _ _ (omega arith) v.call) v.deep;
       ready = v.ready;
     }

@@ -1,4 +1,4 @@
-use Rattle.std.proofs.Common.{refl, ◌∙◌, arith}
+use Rattle.std.proofs.Common.{◌≡◌, ◌-◌, refl, ◌∙◌, arith}
 use Rattle.nodes.proofs.Rooms.{countable}
 use Rattle.held.specs.Held.{Kind, kind}
 use Rattle.shrink.proofs.Pairing.{near_word, near_room, near_at, looked_at, looked}
@@ -16,7 +16,7 @@ returns g c = λ h.
     let s = c.in_ok-child_block-2.ensures f.ready in
     let v = c.in_ok-left_weight.ensures s.ready in
     let w = c.in_ok-right_weight.ensures v.ready in
-    let e = c.saturating_sub-place.ensures in
+    let e : c.saturating_sub-place.result ≡ c.args.place - 1 = omega (arith, c.saturating_sub-place.ensures) in
     record {
       call = λ p.
           let q = near_at (of g) _ _ _ _ e p in
