@@ -42,7 +42,7 @@ module _ {K S : Type 0} (κ : Kind K) (meaning : S → Meaning) (ready : S → T
   queried value i j (Err f) asks keeps h = λ t o.
       let w = asks o.no_fault o.is_ready in
       let d = w.call o.holds.stands.sits in
-      record { refusal = d.refusal; remembered = (keeps o.no_fault).down d.refusal; is_ready = w.ready; is_down = d.is_down }
+      record { lost = d; remembered = (keeps o.no_fault).down d.refusal; is_ready = w.ready }
 
 module _ {K S : Type 0} (κ : Kind K) (meaning : S → Meaning) (ready : S → Type 0) (low high : K) (ks : List K) (hs : List ℕ) (ks' : List K) (hs' : List ℕ) where
   -- a report of the blocks is one of the index
@@ -62,11 +62,11 @@ module _ {K S : Type 0} (κ : Kind K) (meaning : S → Meaning) (ready : S → T
   reported i j (Err e) asks keeps h = λ t o.
       let w = asks o.no_fault o.is_ready in
       let d = w.call o.holds.stands.sits in
-      let halted : Halted κ meaning ready low high ks hs ks' hs' (tree_of κ (meaning i.store).words i.tree.header) e j = record {
-        fell = record { refusal = d.lost.refusal; remembered = keeps o.no_fault d.lost.refusal; is_ready = w.ready; is_down = d.lost.is_down };
+      let halted : Halted κ meaning ready low high ks hs ks' hs' (tree_of κ (meaning i.store).words i.tree.header) i e j = record {
+        fell = record { lost = d.lost; remembered = keeps o.no_fault d.lost.refusal; is_ready = w.ready };
         few = d.few;
         fits = d.fits;
         keys = d.keys;
         handles = d.handles;
       } in
-      subst (λ x. Halted κ meaning ready low high ks hs ks' hs' x e j) o.holds.tree_is halted
+      subst (λ x. Halted κ meaning ready low high ks hs ks' hs' x i e j) o.holds.tree_is halted

@@ -162,7 +162,7 @@ module _ {K S : Type 0} (κ : Kind K) (meaning : S → Meaning) (ready : S → T
       let here = subst (λ x. HoldsTree κ i.header i.tree.header x (meaning i.store)) (sym o.holds.tree_is) o.holds in
       let m = meaning i.store in
       ⊎_elim
-      (λ (l : Lost m f (meaning j.store)). update_fell (record { refusal = l.refusal; remembered = (keeps o.no_fault).down l.refusal; is_ready = w.ready; is_down = l.is_down }))
+      (λ (l : Lost m f (meaning j.store)). update_fell (record { lost = l; remembered = (keeps o.no_fault).down l.refusal; is_ready = w.ready }))
       (λ (x : RefusedFor (refuses κ u (free m) (tree_of κ m.words i.tree.header)) m f (meaning j.store)).
       let clear = (keeps o.no_fault).other (not_down κ u (free m) (tree_of κ m.words i.tree.header) f.refusal x.reason) in
       update_refused (record {

@@ -1,8 +1,8 @@
 -- An index whose blocks hold a tree, and what a question to it tells.
-use Rattle.std.specs.Prelude.{◌≡◌, false, true, List, None, Some, Ok, Err, Result}
+use Rattle.std.specs.Prelude.{◌≡◌, false, List, None, Some, Ok, Err, Result}
 use Rattle.store.specs.Meaning.{Meaning}
+use Rattle.store.specs.Calls.{Lost}
 use Rattle.store.specs.declared.fault.Fault.{Fault}
-use Rattle.store.specs.declared.fault.Refusal.TheVariants.{Down}
 use Rattle.plain.specs.declared.pair.Pair.{Pair}
 use Rattle.tree.specs.Tree.{Tree, content}
 use Rattle.held.specs.Held.{Kind}
@@ -23,12 +23,11 @@ module _ {K S : Type 0} (κ : Kind K) (meaning : S → Meaning) (ready : S → T
     pub no_fault : i.fault ≡ None
     pub holds : HoldsTree κ i.header i.tree.header t (meaning i.store)
 
-  -- the store said 'down', with the fault f, which the index j remembers
-  pub record Falls (f : Fault) (j : Index K S) : Type 0 where
-    pub refusal : f.refusal ≡ Down
+  -- the store of i said 'down' with the fault f, as it raised it, and the index j remembers f
+  pub record Falls (i : Index K S) (f : Fault) (j : Index K S) : Type 0 where
+    pub lost : Lost (meaning i.store) f (meaning j.store)
     pub remembered : j.fault ≡ Some f
     pub is_ready : ready j.store
-    pub is_down : (meaning j.store).down ≡ true
 
   -- an answer of the pairs of t, which the blocks still hold: the store means what it meant
   pub record Answers {A : Type 0} (value : List (Pair K) → A) (t : Tree K) (i : Index K S) (a : A) (j : Index K S) : Type 0 where
@@ -39,4 +38,4 @@ module _ {K S : Type 0} (κ : Kind K) (meaning : S → Meaning) (ready : S → T
   -- a question to an index whose blocks hold t
   abbrev pub Queried : {A : Type 0} → (List (Pair K) → A) → Index K S → Result A Fault → Index K S → Type 0
   Queried value i (Ok a) j = (t : Tree K) → Open i t → Answers value t i a j
-  Queried value i (Err f) j = (t : Tree K) → Open i t → Falls f j
+  Queried value i (Err f) j = (t : Tree K) → Open i t → Falls i f j

@@ -16,8 +16,8 @@ module _ {K S : Type 0} (κ : Kind K) (meaning : S → Meaning) (ready : S → T
     pub same : meaning j.store ≡ meaning i.store
 
   -- the store said 'down' when so many pairs were written: the first from low to high, and no other place was
-  pub record Halted (t : Tree K) (e : Stopped) (j : Index K S) : Type 0 where
-    pub fell : Falls κ meaning ready e.fault j
+  pub record Halted (t : Tree K) (i : Index K S) (e : Stopped) (j : Index K S) : Type 0 where
+    pub fell : Falls κ meaning ready i e.fault j
     pub few : e.written ≤ length (within κ.order low high (content K t))
     pub fits : e.written ≤ length ks
     pub keys : ks' ≡ over (λ p. p.key) (take e.written (within κ.order low high (content K t))) ks
@@ -26,4 +26,4 @@ module _ {K S : Type 0} (κ : Kind K) (meaning : S → Meaning) (ready : S → T
   -- a report of an index whose blocks hold t, into as many keys as handles
   abbrev pub Reports : Index K S → Result ℕ Stopped → Index K S → Type 0
   Reports i (Ok n) j = (t : Tree K) → Open κ meaning ready i t → Reported t i n j
-  Reports i (Err e) j = (t : Tree K) → Open κ meaning ready i t → Halted t e j
+  Reports i (Err e) j = (t : Tree K) → Open κ meaning ready i t → Halted t i e j

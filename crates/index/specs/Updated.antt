@@ -56,7 +56,7 @@ module _ {K : Type 0} (κ : Kind K) where
 
     -- why an update was not made
     pub data NotUpdated (u : Update K) (t : Tree K) (i : Index K S) (f : Fault) (j : Index K S) : Type 0 where
-      update_fell : Falls κ meaning ready f j → NotUpdated u t i f j
+      update_fell : Falls κ meaning ready i f j → NotUpdated u t i f j
       update_refused : Refuses u t i f j → NotUpdated u t i f j
 
     -- an update of an index whose blocks hold t
