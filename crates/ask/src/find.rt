@@ -18,7 +18,7 @@ use store::fault::Fault;
 
 // The leaf that a key belongs to.
 fn leaf_of<K: Key, S: Store>(store: &mut S, root: Node, key: &K) -> Result<u32, Fault>
-    ensures { Leaves S.meaning S.ready (Reaches (kind K.width K.cmp K.packed K.unpacked) root key.now) store.old result store.new }
+    ensures { Leaves S.meaning S.ready (Reaches (kind K.width K.order K.packed K.unpacked) root key.now) store.old result store.new }
 {
     let mut node = root;
     while node.level > 0 {
@@ -29,7 +29,7 @@ fn leaf_of<K: Key, S: Store>(store: &mut S, root: Node, key: &K) -> Result<u32, 
 
 // The pair with the largest key at most `key`.
 pub fn floor<K: Key, S: Store>(store: &mut S, root: Node, key: &K) -> Result<Option<Pair<K>>, Fault>
-    ensures { Leaves S.meaning S.ready (Asks (kind K.width K.cmp K.packed K.unpacked) root (plain_floor K.cmp key.now)) store.old result store.new }
+    ensures { Leaves S.meaning S.ready (Asks (kind K.width K.order K.packed K.unpacked) root (plain_floor K.order key.now)) store.old result store.new }
 {
     let leaf = leaf_of(store, root, key)?;
     let Some(last) = keys_up_to(store, leaf, key)?.checked_sub(1) else {
@@ -42,11 +42,11 @@ pub fn floor<K: Key, S: Store>(store: &mut S, root: Node, key: &K) -> Result<Opt
 
 // The handle of a key.
 pub fn find<K: Key, S: Store>(store: &mut S, root: Node, key: &K) -> Result<Option<u64>, Fault>
-    ensures { Leaves S.meaning S.ready (Asks (kind K.width K.cmp K.packed K.unpacked) root (plain_find K.cmp key.now)) store.old result store.new }
+    ensures { Leaves S.meaning S.ready (Asks (kind K.width K.order K.packed K.unpacked) root (plain_find K.order key.now)) store.old result store.new }
 {
     Ok(
         floor(store, root, key)?
-            .filter(|pair| pair.key == *key)
+            .filter(|pair| pair.key.compare(key).is_eq())
             .map(|pair| pair.handle),
     )
 }

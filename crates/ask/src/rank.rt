@@ -39,14 +39,14 @@ pub(crate) fn leaf_keys_before<K: Key, S: Store>(
     equal: bool,
 ) -> Result<u32, Fault>
     ensures within { IfOk result (λ n. n ≤ 80) }
-    ensures counts { Leaves S.meaning S.ready (CountsLeaf (kind K.width K.cmp K.packed K.unpacked) block (passing K.cmp equal key.now)) store.old result store.new }
+    ensures counts { Leaves S.meaning S.ready (CountsLeaf (kind K.width K.order K.packed K.unpacked) block (passing K.order equal key.now)) store.old result store.new }
 {
     let upto = keys_up_to(store, block, key)?;
     if equal || upto == 0 {
         return Ok(upto);
     }
     let last: K = entry_key(store, block, upto - 1)?;
-    Ok(upto - u32::from(last == *key))
+    Ok(upto - u32::from(last.compare(key).is_eq()))
 }
 
 // The same of all keys below a node.
@@ -56,7 +56,7 @@ fn keys_before<K: Key, S: Store>(
     key: &K,
     equal: bool,
 ) -> Result<u64, Fault>
-    ensures { Leaves S.meaning S.ready (Asks (kind K.width K.cmp K.packed K.unpacked) node (passing K.cmp equal key.now)) store.old result store.new }
+    ensures { Leaves S.meaning S.ready (Asks (kind K.width K.order K.packed K.unpacked) node (passing K.order equal key.now)) store.old result store.new }
 {
     if node.level == 0 {
         return Ok(u64::from(leaf_keys_before(store, node.block, key, equal)?));
@@ -69,14 +69,14 @@ fn keys_before<K: Key, S: Store>(
 
 // How many keys are below `key`.
 pub fn rank<K: Key, S: Store>(store: &mut S, root: Node, key: &K) -> Result<u64, Fault>
-    ensures { Leaves S.meaning S.ready (Asks (kind K.width K.cmp K.packed K.unpacked) root (plain_rank K.cmp key.now)) store.old result store.new }
+    ensures { Leaves S.meaning S.ready (Asks (kind K.width K.order K.packed K.unpacked) root (plain_rank K.order key.now)) store.old result store.new }
 {
     keys_before(store, root, key, false)
 }
 
 // How many keys are at most `key`.
 pub fn up_to<K: Key, S: Store>(store: &mut S, root: Node, key: &K) -> Result<u64, Fault>
-    ensures { Leaves S.meaning S.ready (Asks (kind K.width K.cmp K.packed K.unpacked) root (plain_up_to K.cmp key.now)) store.old result store.new }
+    ensures { Leaves S.meaning S.ready (Asks (kind K.width K.order K.packed K.unpacked) root (plain_up_to K.order key.now)) store.old result store.new }
 {
     keys_before(store, root, key, true)
 }

@@ -46,7 +46,7 @@ fn write_pair<K: Key, S: Store>(
     requires place { written.old < length keys.old }
     requires even { length handles.old ≡ length keys.old }
     ensures within { written.new ≤ length keys.old }
-    ensures writes { Leaves S.meaning S.ready (Writes (StoredAt (kind K.width K.cmp K.packed K.unpacked) 0 block i) (pairs_at (kind K.width K.cmp K.packed K.unpacked) 0 block i) (lent keys.old handles.old written.old) (lent keys.new handles.new written.new)) store.old result store.new }
+    ensures writes { Leaves S.meaning S.ready (Writes (StoredAt (kind K.width K.order K.packed K.unpacked) 0 block i) (pairs_at (kind K.width K.order K.packed K.unpacked) 0 block i) (lent keys.old handles.old written.old) (lent keys.new handles.new written.new)) store.old result store.new }
 {
     let key: K = entry_key(store, block, i)?;
     let handle = entry_child::<K, S>(store, block, i)?;
@@ -70,7 +70,7 @@ fn write_entry<K: Key, S: Store>(
     requires place { written.old < length keys.old }
     requires even { length handles.old ≡ length keys.old }
     ensures within { written.new ≤ length keys.old }
-    ensures writes { Leaves S.meaning S.ready (Writes (StoredAt (kind K.width K.cmp K.packed K.unpacked) node.level node.block i) (pairs_at (kind K.width K.cmp K.packed K.unpacked) node.level node.block i) (lent keys.old handles.old written.old) (lent keys.new handles.new written.new)) store.old result store.new }
+    ensures writes { Leaves S.meaning S.ready (Writes (StoredAt (kind K.width K.order K.packed K.unpacked) node.level node.block i) (pairs_at (kind K.width K.order K.packed K.unpacked) node.level node.block i) (lent keys.old handles.old written.old) (lent keys.new handles.new written.new)) store.old result store.new }
 {
     if node.level == 0 {
         return write_pair(store, node.block, i, keys, handles, written);
@@ -95,7 +95,7 @@ fn write_entries<K: Key, S: Store>(
     requires place { written.old ≤ length keys.old }
     requires even { length handles.old ≡ length keys.old }
     ensures within { written.new ≤ length keys.old }
-    ensures writes { Leaves S.meaning S.ready (Writes (Stored (kind K.width K.cmp K.packed K.unpacked) node.level node.block) (pairs_after (kind K.width K.cmp K.packed K.unpacked) node.level node.block from) (lent keys.old handles.old written.old) (lent keys.new handles.new written.new)) store.old result store.new }
+    ensures writes { Leaves S.meaning S.ready (Writes (Stored (kind K.width K.order K.packed K.unpacked) node.level node.block) (pairs_after (kind K.width K.order K.packed K.unpacked) node.level node.block from) (lent keys.old handles.old written.old) (lent keys.new handles.new written.new)) store.old result store.new }
 {
     if *written == keys.len() {
         return Ok(());
@@ -122,7 +122,7 @@ fn write_from<K: Key, S: Store>(
     requires place { written.old ≤ length keys.old }
     requires even { length handles.old ≡ length keys.old }
     ensures within { written.new ≤ length keys.old }
-    ensures writes { Leaves S.meaning S.ready (Writes (Rooted (kind K.width K.cmp K.packed K.unpacked) node) (pairs_from (kind K.width K.cmp K.packed K.unpacked) node low.now) (lent keys.old handles.old written.old) (lent keys.new handles.new written.new)) store.old result store.new }
+    ensures writes { Leaves S.meaning S.ready (Writes (Rooted (kind K.width K.order K.packed K.unpacked) node) (pairs_from (kind K.width K.order K.packed K.unpacked) node low.now) (lent keys.old handles.old written.old) (lent keys.new handles.new written.new)) store.old result store.new }
 {
     if *written == keys.len() {
         return Ok(());
@@ -143,9 +143,9 @@ fn count_within<K: Key, S: Store>(
     low: &K,
     high: &K,
 ) -> Result<u64, Fault>
-    ensures { Leaves S.meaning S.ready (Asks (kind K.width K.cmp K.packed K.unpacked) root (λ ps. length (plain_within K.cmp low.now high.now ps))) store.old result store.new }
+    ensures { Leaves S.meaning S.ready (Asks (kind K.width K.order K.packed K.unpacked) root (λ ps. length (plain_within K.order low.now high.now ps))) store.old result store.new }
 {
-    if *low > *high {
+    if low.compare(high).is_gt() {
         return Ok(0);
     }
     let below = rank(store, root, low)?;
@@ -164,7 +164,7 @@ pub fn report<K: Key, S: Store>(
 ) -> Result<u64, Stopped>
     ensures bound { IfErr result (λ e. e.written ≤ length keys.old) }
     ensures uneven { length keys.old ≢ length handles.old → (result ≡ Err (record { fault = own_refusal Uneven; written = 0 })) × (keys.new ≡ keys.old) × (handles.new ≡ handles.old) × (store.new ≡ store.old) }
-    ensures reports { length keys.old ≡ length handles.old → Leaves S.meaning S.ready (Reports (kind K.width K.cmp K.packed K.unpacked) root low.now high.now keys.old handles.old keys.new handles.new) store.old result store.new }
+    ensures reports { length keys.old ≡ length handles.old → Leaves S.meaning S.ready (Reports (kind K.width K.order K.packed K.unpacked) root low.now high.now keys.old handles.old keys.new handles.new) store.old result store.new }
 {
     if keys.len() != handles.len() {
         return Err(Stopped::from(refuse(Refusal::Uneven)));

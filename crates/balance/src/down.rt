@@ -16,7 +16,7 @@ use store::fault::Fault;
 // The last child whose routing key is at most `key`, or the first: one level below the node.
 pub fn way_down<K: Key, S: Store>(store: &mut S, node: Node, key: &K) -> Result<Way, Fault>
     ensures child { IfOk result (λ w. (w.parent ≡ node.block) × (w.child.level ≡ node.level - 1)) }
-    ensures leads { Leaves S.meaning S.ready (Work (Peopled (form K.width) node.block) (Led (form K.width) K.cmp K.unpacked node.block key.now)) store.old result store.new }
+    ensures leads { Leaves S.meaning S.ready (Work (Peopled (form K.width) node.block) (Led (form K.width) K.order K.unpacked node.block key.now)) store.old result store.new }
 {
     let upto = keys_up_to(store, node.block, key)?;
     let place = upto.saturating_sub(1);

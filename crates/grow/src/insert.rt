@@ -32,7 +32,7 @@ pub fn insert_below<K: Key, S: Store>(
     key: &K,
     handle: u64,
 ) -> Result<Marks, Fault>
-    ensures { Leaves S.meaning S.ready (Work (Roomy (kind K.width K.cmp K.packed K.unpacked) node key.now) (Grew (kind K.width K.cmp K.packed K.unpacked) node key.now handle)) store.old result store.new }
+    ensures { Leaves S.meaning S.ready (Work (Roomy (kind K.width K.order K.packed K.unpacked) node key.now) (Grew (kind K.width K.order K.packed K.unpacked) node key.now handle)) store.old result store.new }
 {
     if node.level == 0 {
         let place = keys_up_to(store, node.block, key)?;
@@ -52,7 +52,7 @@ pub fn insert_below<K: Key, S: Store>(
 
 // Refuses an insertion before anything is written: present, then full, then no room.
 fn admit<K: Key, S: Store>(store: &mut S, tree: Tree, key: &K) -> Result<(), Fault>
-    ensures { Leaves S.meaning S.ready (Decided (Stands (kind K.width K.cmp K.packed K.unpacked) tree.header) (refusal (kind K.width K.cmp K.packed K.unpacked) tree.header key.now) (λ m _ n. n ≡ m)) store.old result store.new }
+    ensures { Leaves S.meaning S.ready (Decided (Stands (kind K.width K.order K.packed K.unpacked) tree.header) (refusal (kind K.width K.order K.packed K.unpacked) tree.header key.now) (λ m _ n. n ≡ m)) store.old result store.new }
 {
     let Header { root, keys } = tree.header;
     let Some(full) = survey(store, root, key)? else {
@@ -76,7 +76,7 @@ pub fn insert<K: Key, S: Store>(
     key: &K,
     handle: u64,
 ) -> Result<Updated, Fault>
-    ensures { Leaves S.meaning S.ready (Decided (Stands (kind K.width K.cmp K.packed K.unpacked) tree.header) (refusal (kind K.width K.cmp K.packed K.unpacked) tree.header key.now) (Becomes (kind K.width K.cmp K.packed K.unpacked) tree.header (adds key.now handle))) store.old result store.new }
+    ensures { Leaves S.meaning S.ready (Decided (Stands (kind K.width K.order K.packed K.unpacked) tree.header) (refusal (kind K.width K.order K.packed K.unpacked) tree.header key.now) (Becomes (kind K.width K.order K.packed K.unpacked) tree.header (adds key.now handle))) store.old result store.new }
 {
     admit(store, tree, key)?;
     let Header { root, keys } = tree.header;

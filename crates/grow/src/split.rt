@@ -1,5 +1,6 @@
 // A child that grew: its entry corrected, and the child split where it weighs too much.
 ghost use Rattle.std.specs.Prelude.{◌≡◌, ◌+◌, ◌≤◌, IfOk};
+ghost use Rattle.std.specs.Ordering.{ord_min};
 ghost use Rattle.store.specs.Calls.{Leaves};
 ghost use Rattle.copies.specs.Work.{Work};
 ghost use Rattle.held.specs.Held.{kind};
@@ -22,7 +23,7 @@ use tree::mark::Mark;
 
 // Splits a child over its block and a new one; `low` is its smallest key.
 pub fn divide<K: Key, S: Store>(store: &mut S, way: Way, low: K) -> Result<(), Fault>
-    ensures { Leaves S.meaning S.ready (Work (TooHeavy (kind K.width K.cmp K.packed K.unpacked) way low) (λ m _ n. Settled (kind K.width K.cmp K.packed K.unpacked) way m Split n)) store.old result store.new }
+    ensures { Leaves S.meaning S.ready (Work (TooHeavy (kind K.width K.order K.packed K.unpacked) way low) (λ m _ n. Settled (kind K.width K.order K.packed K.unpacked) way m Split n)) store.old result store.new }
 {
     let child = way.child.block;
     let halves: Halves<K> = halve(store, way.child)?;
@@ -34,12 +35,19 @@ pub fn divide<K: Key, S: Store>(store: &mut S, way: Way, low: K) -> Result<(), F
     replace_entry(store, way.parent, way.place, &left)
 }
 
+// The smaller of a stored key and a sought one.
+fn smaller<K: Key>(stored: K, sought: K) -> K
+    ensures { result ≡ ord_min K.order stored sought }
+{
+    if stored.compare(&sought).is_gt() { sought } else { stored }
+}
+
 // Corrects the entry of a child that `key` was put into, and splits the child if it weighs too much.
 pub fn settle<K: Key, S: Store>(store: &mut S, way: Way, key: K) -> Result<Mark, Fault>
-    ensures { Leaves S.meaning S.ready (Work (Due (kind K.width K.cmp K.packed K.unpacked) way key) (Settled (kind K.width K.cmp K.packed K.unpacked) way)) store.old result store.new }
+    ensures { Leaves S.meaning S.ready (Work (Due (kind K.width K.order K.packed K.unpacked) way key) (Settled (kind K.width K.order K.packed K.unpacked) way)) store.old result store.new }
 {
     let weight = entry_weight(store, way.parent, way.place)?;
-    let low = entry_key::<K, S>(store, way.parent, way.place)?.min(key);
+    let low = smaller(entry_key::<K, S>(store, way.parent, way.place)?, key);
     if weight < limit(way.child.level) {
         let entry = Entry::of_child(weight + 1, low, way.child.block);
         replace_entry(store, way.parent, way.place, &entry)?;
@@ -54,7 +62,7 @@ pub fn raise<K: Key, S: Store>(store: &mut S, root: Node, keys: u64) -> Result<N
     requires { root.level ≤ 4 }
     ensures block { IfOk result (λ top. (1 ≤ top.block) × (top.block ≤ 1048575)) }
     ensures level { IfOk result (λ top. top.level ≡ root.level + 1) }
-    ensures raises { Leaves S.meaning S.ready (Work (Tall (kind K.width K.cmp K.packed K.unpacked) root keys) (Raised (kind K.width K.cmp K.packed K.unpacked) root)) store.old result store.new }
+    ensures raises { Leaves S.meaning S.ready (Work (Tall (kind K.width K.order K.packed K.unpacked) root keys) (Raised (kind K.width K.order K.packed K.unpacked) root)) store.old result store.new }
 {
     let low: K = entry_key(store, root.block, 0)?;
     let top = take_root(store)?;

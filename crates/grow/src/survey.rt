@@ -16,7 +16,7 @@ use store::fault::Fault;
 // How many nodes below this one are full on the way of a key, or nothing where the key is present.
 pub fn survey<K: Key, S: Store>(store: &mut S, node: Node, key: &K) -> Result<Option<u32>, Fault>
     ensures bound { IfOk result (λ found. IfSome found (λ full. full ≤ node.level)) }
-    ensures tells { Leaves S.meaning S.ready (Surveys (kind K.width K.cmp K.packed K.unpacked) node key.now) store.old result store.new }
+    ensures tells { Leaves S.meaning S.ready (Surveys (kind K.width K.order K.packed K.unpacked) node key.now) store.old result store.new }
 {
     if node.level == 0 {
         let present = find(store, node, key)?.is_some();

@@ -7,5 +7,5 @@ use keys::key::Key;
 // A node is known by the words of its own blocks: whatever else changes, it stays. The clause spells the kind of key out: a
 // member of `Key` could not name what a crate above it defines.
 pub fn known_by_its_blocks<K: Key>()
-    ensures { Known (kind K.Key.width K.cmp K.Key.packed K.Key.unpacked) }
+    ensures { Known (kind K.Key.width K.Key.order K.Key.packed K.Key.unpacked) }
 {}

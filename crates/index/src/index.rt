@@ -49,7 +49,7 @@ pub struct Created<K, S> {
 
 // Takes a header and an empty leaf, where the store has the right width, no grants, and room for both.
 fn lay_out<K: Key, S: Store>(store: &mut S) -> Result<(u32, Tree), Fault>
-    ensures { Leaves S.meaning S.ready (LaysOut (kind K.width K.cmp K.packed K.unpacked)) store.old result store.new }
+    ensures { Leaves S.meaning S.ready (LaysOut (kind K.width K.order K.packed K.unpacked)) store.old result store.new }
 {
     let stock = store.stock()?;
     if stock.width != block_width::<K>() || stock.granted != 0 {
@@ -76,7 +76,7 @@ fn put_in<K: Key, S: Store>(
     key: &K,
     handle: u64,
 ) -> Result<Updated, Fault>
-    ensures { Leaves S.meaning S.ready (Rewrites (kind K.width K.cmp K.packed K.unpacked) at tree.header (adds key.now handle)) store.old result store.new }
+    ensures { Leaves S.meaning S.ready (Rewrites (kind K.width K.order K.packed K.unpacked) at tree.header (adds key.now handle)) store.old result store.new }
 {
     let updated = insert(store, tree, key, handle)?;
     put_header::<K, S>(store, at, &updated.tree.header)?;
@@ -85,7 +85,7 @@ fn put_in<K: Key, S: Store>(
 
 // Takes a key out of the tree, and writes the tree's header into its block.
 fn take_out<K: Key, S: Store>(store: &mut S, at: u32, tree: Tree, key: &K) -> Result<Updated, Fault>
-    ensures { Leaves S.meaning S.ready (Rewrites (kind K.width K.cmp K.packed K.unpacked) at tree.header (drops key.now)) store.old result store.new }
+    ensures { Leaves S.meaning S.ready (Rewrites (kind K.width K.order K.packed K.unpacked) at tree.header (drops key.now)) store.old result store.new }
 {
     let updated = delete(store, tree, key)?;
     put_header::<K, S>(store, at, &updated.tree.header)?;
@@ -95,7 +95,7 @@ fn take_out<K: Key, S: Store>(store: &mut S, at: u32, tree: Tree, key: &K) -> Re
 impl<K: Key, S: Store> Index<K, S> {
     // Makes an empty index in a store that has no grants. Refused, it hands the store back.
     pub fn create(mut store: S) -> Result<Created<K, S>, Refused<Fault, S>>
-        ensures { Creates (kind K.width K.cmp K.packed K.unpacked) S.meaning S.ready store result }
+        ensures { Creates (kind K.width K.order K.packed K.unpacked) S.meaning S.ready store result }
     {
         match lay_out::<K, S>(&mut store) {
             Ok((header, tree)) => {
@@ -173,7 +173,7 @@ impl<K: Key, S: Store> Index<K, S> {
     // Puts a pair in: refused where the key is present, then at the key limit, then for want of blocks.
     pub fn insert(&mut self, key: &K, handle: u64) -> Result<Marks, Fault>
         ensures repeats { IfSome self.old.fault (λ f. (result ≡ Err f) × (self.new ≡ self.old)) }
-        ensures updates { Updates (kind K.width K.cmp K.packed K.unpacked) S.meaning S.ready (adds key.now handle) self.old result self.new }
+        ensures updates { Updates (kind K.width K.order K.packed K.unpacked) S.meaning S.ready (adds key.now handle) self.old result self.new }
     {
         let header = self.header;
         let updated = self.step(|store, tree| put_in(store, header, tree, key, handle))?;
@@ -183,7 +183,7 @@ impl<K: Key, S: Store> Index<K, S> {
     // Takes a key out: refused where it is absent.
     pub fn delete(&mut self, key: &K) -> Result<Marks, Fault>
         ensures repeats { IfSome self.old.fault (λ f. (result ≡ Err f) × (self.new ≡ self.old)) }
-        ensures updates { Updates (kind K.width K.cmp K.packed K.unpacked) S.meaning S.ready (drops key.now) self.old result self.new }
+        ensures updates { Updates (kind K.width K.order K.packed K.unpacked) S.meaning S.ready (drops key.now) self.old result self.new }
     {
         let header = self.header;
         let updated = self.step(|store, tree| take_out(store, header, tree, key))?;
@@ -193,7 +193,7 @@ impl<K: Key, S: Store> Index<K, S> {
     // The handle of a key, or nothing.
     pub fn find(&mut self, key: &K) -> Result<Option<u64>, Fault>
         ensures repeats { IfSome self.old.fault (λ f. (result ≡ Err f) × (self.new ≡ self.old)) }
-        ensures answers { Queried (kind K.width K.cmp K.packed K.unpacked) S.meaning S.ready (plain_find K.cmp key.now) self.old result self.new }
+        ensures answers { Queried (kind K.width K.order K.packed K.unpacked) S.meaning S.ready (plain_find K.order key.now) self.old result self.new }
         ensures handle { SameHandle self.old self.new }
     {
         self.step(|store, tree| find(store, tree.header.root, key))
@@ -202,7 +202,7 @@ impl<K: Key, S: Store> Index<K, S> {
     // The pair with the largest key at most this one, or nothing.
     pub fn floor(&mut self, key: &K) -> Result<Option<Pair<K>>, Fault>
         ensures repeats { IfSome self.old.fault (λ f. (result ≡ Err f) × (self.new ≡ self.old)) }
-        ensures answers { Queried (kind K.width K.cmp K.packed K.unpacked) S.meaning S.ready (plain_floor K.cmp key.now) self.old result self.new }
+        ensures answers { Queried (kind K.width K.order K.packed K.unpacked) S.meaning S.ready (plain_floor K.order key.now) self.old result self.new }
         ensures handle { SameHandle self.old self.new }
     {
         self.step(|store, tree| floor(store, tree.header.root, key))
@@ -211,7 +211,7 @@ impl<K: Key, S: Store> Index<K, S> {
     // How many keys are below this one.
     pub fn rank(&mut self, key: &K) -> Result<u64, Fault>
         ensures repeats { IfSome self.old.fault (λ f. (result ≡ Err f) × (self.new ≡ self.old)) }
-        ensures answers { Queried (kind K.width K.cmp K.packed K.unpacked) S.meaning S.ready (plain_rank K.cmp key.now) self.old result self.new }
+        ensures answers { Queried (kind K.width K.order K.packed K.unpacked) S.meaning S.ready (plain_rank K.order key.now) self.old result self.new }
         ensures handle { SameHandle self.old self.new }
     {
         self.step(|store, tree| rank(store, tree.header.root, key))
@@ -227,7 +227,7 @@ impl<K: Key, S: Store> Index<K, S> {
     ) -> Result<u64, Stopped>
         ensures repeats { IfSome self.old.fault (λ f. (result ≡ Err (record { fault = f; written = 0 })) × (self.new ≡ self.old) × (keys.new ≡ keys.old) × (handles.new ≡ handles.old)) }
         ensures uneven { self.old.fault ≡ None → length keys.old ≢ length handles.old → (result ≡ Err (record { fault = own_refusal Uneven; written = 0 })) × (self.new ≡ self.old) × (keys.new ≡ keys.old) × (handles.new ≡ handles.old) }
-        ensures reports { length keys.old ≡ length handles.old → Reports (kind K.width K.cmp K.packed K.unpacked) S.meaning S.ready low.now high.now keys.old handles.old keys.new handles.new self.old result self.new }
+        ensures reports { length keys.old ≡ length handles.old → Reports (kind K.width K.order K.packed K.unpacked) S.meaning S.ready low.now high.now keys.old handles.old keys.new handles.new self.old result self.new }
         ensures handle { SameHandle self.old self.new }
     {
         if let Some(fault) = self.fault {

@@ -27,7 +27,7 @@ impl<S: Store> Index<Checkpoint, S> {
     // that is another case's.
     pub fn resume(&mut self, case: u32) -> Result<Option<Pair<Checkpoint>>, Fault>
         ensures repeats { IfSome self.old.fault (λ f. (result ≡ Err f) × (self.new ≡ self.old)) }
-        ensures answers { Queried (kind ⟦<Checkpoint as Key>⟧.width ⟦<Checkpoint as Ord>⟧.cmp ⟦<Checkpoint as Key>⟧.packed ⟦<Checkpoint as Key>⟧.unpacked) S.meaning S.ready (resume case) self.old result self.new }
+        ensures answers { Queried (kind ⟦<Checkpoint as Key>⟧.width ⟦<Checkpoint as Key>⟧.order ⟦<Checkpoint as Key>⟧.packed ⟦<Checkpoint as Key>⟧.unpacked) S.meaning S.ready (resume case) self.old result self.new }
         ensures handle { SameHandle self.old self.new }
     {
         Ok(

@@ -9,7 +9,6 @@ ghost use Rattle.keys.specs.Lawful.{checkpoints_ordered};
 ghost use Rattle.keys.specs.Checkpoints;
 ghost use Rattle.keys.specs.Alike.{checkpoints, stamps, documents};
 ghost use Rattle.keys.specs.CheckpointKeyLemmas.{forth_law};
-ghost use Rattle.keys.specs.Totals.{same_order};
 ghost use Rattle.keys.specs.Stamps;
 ghost use Rattle.keys.specs.DueStampKeyLemmas.{stamps_ordered, word_fits, there_back};
 ghost use Rattle.keys.specs.DueStampKeyLemmas;
@@ -22,6 +21,7 @@ use crate::checkpoint::Checkpoint;
 use crate::document::DocumentName;
 use crate::key::Key;
 use crate::stamp::DueStamp;
+use std::cmp::Ordering;
 
 // The word at a place, 0 past the end.
 fn word_at(words: &[u64], i: usize) -> u64
@@ -33,11 +33,13 @@ fn word_at(words: &[u64], i: usize) -> u64
 impl Key for Checkpoint {
     ghost width = { 1 };
 
+    ghost order = { checkpoint_order };
+
     ghost packed = { checkpoint_packed };
 
     ghost unpacked = { checkpoint_unpacked };
 
-    ghost ordered = { same_order checkpoints_ordered (Prim.search rules) };
+    ghost ordered = { checkpoints_ordered };
 
     ghost packing = { record {
       some = Prim.search rules;
@@ -50,6 +52,10 @@ impl Key for Checkpoint {
 
     fn words() -> u32 {
         1
+    }
+
+    fn compare(&self, other: &Checkpoint) -> Ordering {
+        self.cmp(other)
     }
 
     fn word(&self, i: u32) -> u64 {
@@ -86,11 +92,13 @@ fn to_minute(word: u64) -> i64
 impl Key for DueStamp {
     ghost width = { 2 };
 
+    ghost order = { stamp_order };
+
     ghost packed = { stamp_packed };
 
     ghost unpacked = { stamp_unpacked };
 
-    ghost ordered = { same_order stamps_ordered (Prim.search rules) };
+    ghost ordered = { stamps_ordered };
 
     ghost packing = { record {
       some = Prim.search rules;
@@ -105,6 +113,10 @@ impl Key for DueStamp {
 
     fn words() -> u32 {
         2
+    }
+
+    fn compare(&self, other: &DueStamp) -> Ordering {
+        self.cmp(other)
     }
 
     fn word(&self, i: u32) -> u64 {
@@ -130,11 +142,13 @@ impl Key for DueStamp {
 impl Key for DocumentName {
     ghost width = { 4 };
 
+    ghost order = { document_order };
+
     ghost packed = { document_packed };
 
     ghost unpacked = { document_unpacked };
 
-    ghost ordered = { same_order documents_ordered (Prim.search rules) };
+    ghost ordered = { documents_ordered };
 
     ghost packing = { record {
       some = Prim.search rules;
@@ -147,6 +161,10 @@ impl Key for DocumentName {
 
     fn words() -> u32 {
         4
+    }
+
+    fn compare(&self, other: &DocumentName) -> Ordering {
+        self.cmp(other)
     }
 
     fn word(&self, i: u32) -> u64 {

@@ -9,15 +9,15 @@ use crate::key::Key;
 // How many of the ascending keys are below q.
 pub fn below<K: Key>(keys: &[K], q: &K) -> usize
     ensures within { result ≤ length keys.now }
-    ensures value { Ascending K.cmp keys.now → result ≡ keys_below K.cmp q.now keys.now }
+    ensures value { Ascending K.order keys.now → result ≡ keys_below K.order q.now keys.now }
 {
-    keys.partition_point(|k| k < q)
+    keys.partition_point(|k| k.compare(q).is_lt())
 }
 
 // How many of the ascending keys are at most q.
 pub fn up_to<K: Key>(keys: &[K], q: &K) -> usize
     ensures within { result ≤ length keys.now }
-    ensures value { Ascending K.cmp keys.now → result ≡ keys_up_to K.cmp q.now keys.now }
+    ensures value { Ascending K.order keys.now → result ≡ keys_up_to K.order q.now keys.now }
 {
-    keys.partition_point(|k| k <= q)
+    keys.partition_point(|k| k.compare(q).is_le())
 }

@@ -6,7 +6,7 @@ use keys::key::Key;
 // Finding and floor mean what they say, an interval is counted by two ranks, every call keeps the keys ascending, and a
 // refusal changes nothing.
 pub fn plain_list<K: Key>()
-    ensures { PlainLaws K.cmp }
+    ensures { PlainLaws K.Key.order }
 {}
 
 // Resume finds the last step of a case.

@@ -28,7 +28,7 @@ use tree::mark::Mark;
 
 // Corrects the entry of a child that lost a key, and merges the child if it weighs too little.
 fn settle<K: Key, S: Store>(store: &mut S, way: Way) -> Result<Mark, Fault>
-    ensures { Leaves S.meaning S.ready (Work (Stale (kind K.width K.cmp K.packed K.unpacked) way) (Mended (kind K.width K.cmp K.packed K.unpacked) way)) store.old result store.new }
+    ensures { Leaves S.meaning S.ready (Work (Stale (kind K.width K.order K.packed K.unpacked) way) (Mended (kind K.width K.order K.packed K.unpacked) way)) store.old result store.new }
 {
     let weight = entry_weight(store, way.parent, way.place)?.saturating_sub(1);
     let low: K = entry_key(store, way.child.block, 0)?;
@@ -42,7 +42,7 @@ fn settle<K: Key, S: Store>(store: &mut S, way: Way) -> Result<Mark, Fault>
 
 // Takes a key, which is there, out below a node, whose own weight its parent looks at.
 pub fn delete_below<K: Key, S: Store>(store: &mut S, node: Node, key: &K) -> Result<Marks, Fault>
-    ensures { Leaves S.meaning S.ready (Work (Holding (kind K.width K.cmp K.packed K.unpacked) node key.now) (Shrank (kind K.width K.cmp K.packed K.unpacked) node key.now)) store.old result store.new }
+    ensures { Leaves S.meaning S.ready (Work (Holding (kind K.width K.order K.packed K.unpacked) node key.now) (Shrank (kind K.width K.order K.packed K.unpacked) node key.now)) store.old result store.new }
 {
     if node.level == 0 {
         let Some(last) = keys_up_to(store, node.block, key)?.checked_sub(1) else {
@@ -59,7 +59,7 @@ pub fn delete_below<K: Key, S: Store>(store: &mut S, node: Node, key: &K) -> Res
 
 // Gives back an inner root that has one child left, which is then the root.
 fn lower<K: Key, S: Store>(store: &mut S, tree: Tree) -> Result<Tree, Fault>
-    ensures { Leaves S.meaning S.ready (Work (Topped (kind K.width K.cmp K.packed K.unpacked) tree.header) (Lowered (kind K.width K.cmp K.packed K.unpacked) tree.header)) store.old result store.new }
+    ensures { Leaves S.meaning S.ready (Work (Topped (kind K.width K.order K.packed K.unpacked) tree.header) (Lowered (kind K.width K.order K.packed K.unpacked) tree.header)) store.old result store.new }
 {
     let Header { root, keys } = tree.header;
     if root.level == 0 || count(store, root.block)? != 1 {
@@ -81,7 +81,7 @@ fn lower<K: Key, S: Store>(store: &mut S, tree: Tree) -> Result<Tree, Fault>
 
 // Takes a key out; refused where it is absent.
 pub fn delete<K: Key, S: Store>(store: &mut S, tree: Tree, key: &K) -> Result<Updated, Fault>
-    ensures { Leaves S.meaning S.ready (Decided (Stands (kind K.width K.cmp K.packed K.unpacked) tree.header) (refusal (kind K.width K.cmp K.packed K.unpacked) tree.header key.now) (Becomes (kind K.width K.cmp K.packed K.unpacked) tree.header (drops key.now))) store.old result store.new }
+    ensures { Leaves S.meaning S.ready (Decided (Stands (kind K.width K.order K.packed K.unpacked) tree.header) (refusal (kind K.width K.order K.packed K.unpacked) tree.header key.now) (Becomes (kind K.width K.order K.packed K.unpacked) tree.header (drops key.now))) store.old result store.new }
 {
     let Header { root, keys } = tree.header;
     if find(store, root, key)?.is_none() {

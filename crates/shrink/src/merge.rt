@@ -34,7 +34,7 @@ fn neighbours<K: Key, S: Store>(
     place: u32,
     level: u32,
 ) -> Result<Siblings<K>, Fault>
-    ensures { Leaves S.meaning S.ready (Work (Neighbours (kind K.width K.cmp K.packed K.unpacked) parent (place - 1) level) (Looked (kind K.width K.cmp K.packed K.unpacked) parent (place - 1) level)) store.old result store.new }
+    ensures { Leaves S.meaning S.ready (Work (Neighbours (kind K.width K.order K.packed K.unpacked) parent (place - 1) level) (Looked (kind K.width K.order K.packed K.unpacked) parent (place - 1) level)) store.old result store.new }
 {
     let place = place.saturating_sub(1);
     let n = count(store, parent)?;
@@ -70,7 +70,7 @@ fn neighbours<K: Key, S: Store>(
 
 // Makes the left block hold both nodes, and gives the right block back.
 fn merge<K: Key, S: Store>(store: &mut S, pair: &Siblings<K>) -> Result<(), Fault>
-    ensures { Leaves S.meaning S.ready (Work (Mergeable (kind K.width K.cmp K.packed K.unpacked) pair.now) (Merged (kind K.width K.cmp K.packed K.unpacked) pair.now)) store.old result store.new }
+    ensures { Leaves S.meaning S.ready (Work (Mergeable (kind K.width K.order K.packed K.unpacked) pair.now) (Merged (kind K.width K.order K.packed K.unpacked) pair.now)) store.old result store.new }
 {
     let Siblings { left, right, .. } = *pair;
     append_all::<K, S>(store, right.child.block, left.child.block)?;
@@ -82,7 +82,7 @@ fn merge<K: Key, S: Store>(store: &mut S, pair: &Siblings<K>) -> Result<(), Faul
 
 // Shares the entries of both out anew, as a node of all of them is split, over the same two blocks.
 fn share<K: Key, S: Store>(store: &mut S, pair: &Siblings<K>) -> Result<(), Fault>
-    ensures { Leaves S.meaning S.ready (Work (Shareable (kind K.width K.cmp K.packed K.unpacked) pair.now) (Shared (kind K.width K.cmp K.packed K.unpacked) pair.now)) store.old result store.new }
+    ensures { Leaves S.meaning S.ready (Work (Shareable (kind K.width K.order K.packed K.unpacked) pair.now) (Shared (kind K.width K.order K.packed K.unpacked) pair.now)) store.old result store.new }
 {
     let Siblings { left, right, .. } = *pair;
     append_all::<K, S>(store, right.child.block, left.child.block)?;
@@ -102,7 +102,7 @@ pub fn mend<K: Key, S: Store>(
     place: u32,
     level: u32,
 ) -> Result<Mark, Fault>
-    ensures { Leaves S.meaning S.ready (Work (Neighbours (kind K.width K.cmp K.packed K.unpacked) parent (place - 1) level) (Fused (kind K.width K.cmp K.packed K.unpacked) parent (place - 1) level)) store.old result store.new }
+    ensures { Leaves S.meaning S.ready (Work (Neighbours (kind K.width K.order K.packed K.unpacked) parent (place - 1) level) (Fused (kind K.width K.order K.packed K.unpacked) parent (place - 1) level)) store.old result store.new }
 {
     let pair: Siblings<K> = neighbours(store, parent, place, level)?;
     if pair.weight > limit(level) / 8 * 7 {

@@ -48,8 +48,11 @@ impl<'a> Grants<'a> {
     fn count(&self) -> u32
         ensures { result ≡ count_to (in_use self.now.capacity self.now.marks.now) self.now.capacity }
     {
-        (0..self.capacity)
-            .filter(|slot| self.mark(*slot) != 0)
+        // over the marks themselves: place by place, each tested against the end of the run, is several times as slow
+        self.marks
+            .iter()
+            .take(self.capacity as usize)
+            .filter(|mark| **mark != 0)
             .count() as u32
     }
 

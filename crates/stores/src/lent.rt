@@ -139,14 +139,11 @@ impl<'a, L: Layout> LentStore<'a, L> {
         put(self.words, at, word);
     }
 
-    // Clears the words of the block in a slot, place by place: a layout may scatter them, so no slice has them.
+    // Clears the words of the block in a slot.
     fn wipe(&mut self, slot: u32)
         ensures { Wiping L.plan self.old slot self.new }
     {
-        for place in 0..self.width {
-            let at = self.layout.place_of(self.width, slot, place);
-            self.put(at, 0);
-        }
+        self.layout.wipe(self.words, self.width, slot);
     }
 
     // Grants the block in a free slot, its words cleared.

@@ -19,3 +19,12 @@ pub fn clear_marks(marks: &mut [u8], n: usize)
     let end = n.min(marks.len());
     marks[..end].fill(0);
 }
+
+// Writes 0 into n words from `start` on, as far as there are so many.
+pub fn clear_words(words: &mut [u64], start: usize, n: usize)
+    ensures { words.new ≡ cleared start n words.old }
+{
+    let start = start.min(words.len());
+    let end = start.saturating_add(n).min(words.len());
+    words[start..end].fill(0);
+}

@@ -6,6 +6,7 @@ ghost use Rattle.stores.specs.Laws.Tables.{rows_lawful};
 
 use crate::layout::{Layout, check_width};
 use crate::lent::LentStore;
+use crate::runs::clear_words;
 use store::blocks::LARGEST_BLOCK;
 use store::fault::Fault;
 
@@ -36,6 +37,10 @@ impl Layout for Rows {
 
     fn place_of(&self, width: u32, slot: u32, place: u32) -> usize {
         slot as usize * width as usize + place as usize
+    }
+
+    fn wipe(&self, words: &mut [u64], width: u32, slot: u32) {
+        clear_words(words, slot as usize * width as usize, width as usize);
     }
 
     fn measure(&self, width: u32, marks: usize, words: usize) -> Result<u32, Fault> {

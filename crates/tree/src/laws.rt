@@ -11,33 +11,33 @@ use keys::key::Key;
 
 // An accepted update keeps the rules, and after any list of updates the tree holds the plain list's pairs.
 pub fn rules_kept<K: Key>()
-    ensures { (s : Shape) → RulesKept K.cmp s }
+    ensures { (s : Shape) → RulesKept K.Key.order s }
 {}
 
 // At each level, rebalancings × (W / 8 + 1) are at most the accepted updates.
 pub fn rebalancings_bounded<K: Key>()
-    ensures { (s : Shape) → RebalancingsBounded K.cmp s }
+    ensures { (s : Shape) → RebalancingsBounded K.Key.order s }
 {}
 
 // What an insertion takes and a deletion gives back.
 pub fn blocks_counted<K: Key>()
-    ensures { (s : Shape) → BlocksCounted K.cmp s }
+    ensures { (s : Shape) → BlocksCounted K.Key.order s }
 {}
 
 // How many entries a node can have, even one just merged.
 pub fn places_suffice<K: Key>()
-    ensures { (s : Shape) → PlacesSuffice K.cmp s }
+    ensures { (s : Shape) → PlacesSuffice K.Key.order s }
 {}
 
 // Where a node is split, and which way a key goes down.
 pub fn split_and_way<K: Key>()
-    ensures splits { (s : Shape) → Splits K.cmp s }
-    ensures way { (s : Shape) → WayDown K.cmp s }
+    ensures splits { (s : Shape) → Splits K.Key.order s }
+    ensures way { (s : Shape) → WayDown K.Key.order s }
 {}
 
 // Find, floor, rank, report and the count of an interval by going down.
 pub fn answers_agree<K: Key>()
-    ensures { (s : Shape) → Asked K.cmp s }
+    ensures { (s : Shape) → Asked K.Key.order s }
 {}
 
 // Resume by going down, for checkpoints.

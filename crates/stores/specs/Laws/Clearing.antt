@@ -3,7 +3,7 @@ use Rattle.std.specs.Prelude.{◌≡◌, ℕ, zero, suc, ◌+◌, ◌-◌, ◌<�
 use Rattle.std.proofs.Math.Path.{refl}
 use Rattle.std.proofs.Common.{sym, ap, ap₂, ◌∙◌, ⊎_elim, arith, add-one, zero-add, ◌++◌, drop, replicate}
 use Rattle.std.proofs.lemmas.List.Edits.{fill_none, fill_more}
-use Rattle.std.proofs.lemmas.List.{length-set, get_or-set_same, get_or-set_other, get_or_past, set_past}
+use Rattle.std.proofs.lemmas.List.{length-set, get_or-set_same, get_or-set_other, get_or_past, set_past, set-append_right}
 use Rattle.std.proofs.lemmas.Bool.{cases_eq, cases_lt}
 use Rattle.stores.specs.Table.{wiped, cleared}
 
@@ -110,3 +110,26 @@ cleared_front (suc n) xs h =
     ∙ ap₂ (λ ys k. set ys k 0) (cleared_front n xs (omega arith)) (zero-add n)
     ∙ fill_more n 0 xs (omega arith)
     ∙ ap (λ k. replicate k 0 ++ drop k xs) (add-one n)
+
+-- clearing past a front leaves the front
+pub cleared_behind : (s n : ℕ) (front xs : List ℕ) → length front ≡ s → cleared s n (front ++ xs) ≡ front ++ cleared 0 n xs
+cleared_behind s zero front xs h = cleared_none s (front ++ xs) ∙ ap (λ ys. front ++ ys) (sym (cleared_none 0 xs))
+cleared_behind s (suc n) front xs h =
+    ap (λ k. cleared s k (front ++ xs)) (sym (add-one n))
+    ∙ cleared_more s (front ++ xs) n
+    ∙ ap (λ ys. set ys (s + n) 0) (cleared_behind s n front xs h)
+    ∙ set-append_right front (cleared 0 n xs) s (s + n) 0 h (omega arith)
+    ∙ ap (λ k. front ++ set (cleared 0 n xs) k 0) (omega arith)
+    ∙ ap (λ ys. front ++ ys) (sym (cleared_more 0 xs n) ∙ ap (λ k. cleared 0 k xs) (add-one n))
+
+-- clearing from a start and for a number of places that are cut to the run
+pub cleared_cut : (s n b e : ℕ) (xs : List ℕ) → b ≡ min s (length xs) → e ≡ min (b + n) (length xs) → cleared b (e - b) xs ≡ cleared s n xs
+cleared_cut s n b e xs p q =
+    ⊎_elim
+    (λ (l : length xs < s).
+        let z : e - b ≡ 0 = omega arith in
+        ap (λ k. cleared b k xs) z ∙ cleared_none b xs ∙ sym (cleared_none s xs) ∙ cleared_past s xs 0 n (omega arith) (omega arith))
+    (λ (l : s ≤ length xs).
+        let z : b ≡ s = omega arith in
+        ap (λ k. cleared k (e - k) xs) z ∙ cleared_end s xs n e e (omega arith) (omega arith) (λ _. omega arith) (omega arith))
+    (cases_lt (length xs) s)

@@ -1,10 +1,12 @@
 -- A store by its marks and words, wherever the words of its blocks stand.
-use Rattle.std.specs.Prelude.{◌≡◌, ℕ, zero, suc, ◌+◌, ◌-◌, ◌<◌, ◌≤◌, min, Bool, true, false, cond, not, ◌&&◌, List, ◌∷◌, length, filter, ◌==◌, ◌≢◌, nat_le, nat_lt, slice_index, slice_index_or, slice_set}
+use Rattle.std.specs.Prelude.{◌≡◌, ℕ, zero, suc, ◌+◌, ◌-◌, ◌<◌, ◌≤◌, min, Bool, true, false, cond, not, ◌&&◌, List, [], ◌∷◌, ◌++◌, length, take, filter, ◌==◌, ◌≢◌, nat_le, nat_lt, slice_index, slice_index_or, slice_set}
 use Rattle.std.specs.List.{range_with_len}
 use Rattle.std.proofs.Math.Path.{refl, ap, fun_ext}
-use Rattle.std.proofs.Common.{sym, ap₂, ◌∙◌, ⊎_elim, add-zero, zero-add}
+use Rattle.std.proofs.Common.{sym, ap₂, ◌∙◌, ⊎_elim, add-zero, zero-add, add-one, length-append}
 use native.Mathlib.Omega.{arith}
-use Rattle.std.proofs.lemmas.List.{get_or-set_same, get_or-set_other}
+use Rattle.std.proofs.Math.Seq.{take-suc}
+use Rattle.std.proofs.lemmas.List.{get_or-set_same, get_or-set_other, get_or_past, take_all}
+use Rattle.std.proofs.lemmas.List.Elements.{filter-append}
 use Rattle.std.proofs.lemmas.Bool.{cases_Bool, cases_lt, and_parts, and_from, and_left, and_right, ltb-true, leb-true, lt-ltb, le-leb, lt-leb, le-ltb, eqb-true, eqb-false, eq-eqb, ne_eqb, not-true, not-false, not_from_true, not_from_false, cond-true, cond-false}
 use Rattle.store.specs.Meaning.{Sound, limit, count_to, with_at, with_blocks, taken, returned, written}
 use Rattle.store.specs.Laws.Changes.{with_at_from}
@@ -250,3 +252,30 @@ module _ (c : ℕ) (marks : List ℕ) where
       let l = ap length (cond-false (test a) (a ∷ filter test ys) (filter test ys) t) in
       omega (arith, l, one, rest))
       (cases_Bool (test a))
+
+  -- the marks that are set among the first
+  pub count_front : (test : ℕ → Bool) → ((m : ℕ) → test m ≡ not (m == 0)) → (n : ℕ) → n ≤ c → length (filter test (take n marks)) ≡ count_to (in_use c marks) n
+  count_front test e zero h = sym (count_none (in_use c marks))
+  count_front test e (suc n) h =
+      let k = count_to (in_use c marks) n in
+      let m = slice_index marks n in
+      let rest = count_front test e n (omega arith) in
+      let next = ap (count_to (in_use c marks)) (add-one n) in
+      ⊎_elim
+      (λ (l : n < length marks).
+      let more = ap (λ xs. length (filter test xs)) (take-suc marks n 0 l) ∙ ap length (filter-append test (take n marks) (m ∷ [])) ∙ length-append (filter test (take n marks)) (filter test (m ∷ [])) in
+      ⊎_elim
+      (λ (t : test m ≡ true).
+      let one = mark_on n k (omega arith) (eqb-false m 0 (not-true _ (sym (e m) ∙ t))) refl in
+      let it = ap length (cond-true (test m) (m ∷ []) [] t) in
+      omega (arith, more, it, one, rest, next))
+      (λ (t : test m ≡ false).
+      let one = mark_off n k (eqb-true m 0 (not-false _ (sym (e m) ∙ t))) refl in
+      let it = ap length (cond-false (test m) (m ∷ []) [] t) in
+      omega (arith, more, it, one, rest, next))
+      (cases_Bool (test m)))
+      (λ (l : length marks ≤ n).
+      let same = ap (λ xs. length (filter test xs)) (take_all (suc n) marks (omega arith) ∙ sym (take_all n marks l)) in
+      let one = mark_off n k (get_or_past marks n 0 l) refl in
+      omega (arith, same, one, rest, next))
+      (cases_lt n (length marks))

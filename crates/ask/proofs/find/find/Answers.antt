@@ -9,7 +9,7 @@ returns g c = λ h.
       call = λ p.
           let t = a.call p in
           record {
-            value_is = told_find g.met.K.Key.ordered _ _ _ _ p.ascending t.value_is (kept_handle g.K.Ord.cmp _ _ _ (λ q b x. search rules) (λ q v x. search rules) _ _ _ c.filter.ensures c.map.ensures.cases);
+            value_is = told_find g.met.K.Key.ordered _ _ _ _ p.ascending t.value_is (kept_handle g.K.Key.order _ _ _ (λ q b x. search rules) (λ q v x. search rules) _ _ _ c.filter.ensures c.map.ensures.cases);
             same = t.same;
           };
       ready = a.ready;

@@ -8,7 +8,7 @@ use Rattle.ask.proofs.find.floor.Given as given
 use Rattle.ask.proofs.find.floor.Goals as goal
 
 abbrev of : (g : given.Over) → Kind g.row.K.Denot
-of g = kind g.K.Key.width g.K.Ord.cmp g.K.Key.packed g.K.Key.unpacked
+of g = kind g.K.Key.width g.K.Key.order g.K.Key.packed g.K.Key.unpacked
 
 pub returns-in_default : goal.returns-in_default
 returns-in_default g c = λ h.

@@ -8,7 +8,7 @@ use Rattle.ask.proofs.find.leaf_of.Given as goal
 abbrev pub invariant-loop-node : goal.invariant-loop-node
 invariant-loop-node g l =
     let m = g.S.Store.meaning l.initial.store in
-    let κ = kind g.K.Key.width g.K.Ord.cmp g.K.Key.packed g.K.Key.unpacked in
+    let κ = kind g.K.Key.width g.K.Key.order g.K.Key.packed g.K.Key.unpacked in
     g.S.Store.ready l.initial.store →
     Left (Rooted κ l.fn.root m → (g.S.Store.meaning l.store ≡ m) × Below κ m l.fn.root l.key l.node) (g.S.Store.ready l.store)
 

@@ -11,7 +11,7 @@ use Rattle.ask.proofs.rank.leaf_keys_before.Goals as goal
 use Rattle.ask.proofs.rank.leaf_keys_before.Goals.{then-equal-via-then-equal, then-equal-via-else-equal+then-upto-eq0}
 
 abbrev of : (g : given.Over) → Kind g.row.K.Denot
-of g = kind g.K.Key.width g.K.Ord.cmp g.K.Key.packed g.K.Key.unpacked
+of g = kind g.K.Key.width g.K.Key.order g.K.Key.packed g.K.Key.unpacked
 
 abbrev law : (g : given.Over) → Lawful (of g)
 law g = record { ordered = g.met.K.Key.ordered; packing = g.met.K.Key.packing }
@@ -34,7 +34,7 @@ returns-clause-counts g c = λ h.
       call = λ s.
           let n = node_of (of g) index_unit _ 0 _ s in
           let f = e.call n in
-          let itself : c.eq.result ≡ is_eq (g.K.Ord.cmp c.in_ok-last.last c.args.key.now) = search rules in
+          let itself : c.is_eq.result ≡ is_eq (g.K.Key.order c.in_ok-last.last c.args.key.now) = search rules in
           leaf_last (of g) (law g) _ _ _ _ _ _ _ _ _ _ c.if-equal.false (omega (arith, c.if-upto-eq0.false)) s f (x.call (room_same _ _ _ _ f.same n.room)) (c.from.ensures ∙ ap from_bool itself);
       ready = x.ready;
     }

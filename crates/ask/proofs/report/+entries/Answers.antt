@@ -8,7 +8,7 @@ use Rattle.ask.proofs.report.+entries.Given as given
 use Rattle.ask.proofs.report.+entries.Goals as goal
 
 abbrev of : (g : given.Over) → Kind g.row.K.Denot
-of g = kind g.K.Key.width g.K.Ord.cmp g.K.Key.packed g.K.Key.unpacked
+of g = kind g.K.Key.width g.K.Key.order g.K.Key.packed g.K.Key.unpacked
 
 pub write_entry-returns-in_err-child_block-clause-writes : goal.write_entry-returns-in_err-child_block-clause-writes
 write_entry-returns-in_err-child_block-clause-writes g t c =

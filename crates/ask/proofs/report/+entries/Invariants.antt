@@ -14,6 +14,6 @@ decreases-write_entries g l = 2 * l.node.level + 1
 abbrev pub invariant-write_entries-loop-i : goal.invariant-write_entries-loop-i
 invariant-write_entries-loop-i g l =
     let m = g.S.Store.meaning l.fn.store in
-    let κ = kind g.K.Key.width g.K.Ord.cmp g.K.Key.packed g.K.Key.unpacked in
+    let κ = kind g.K.Key.width g.K.Key.order g.K.Key.packed g.K.Key.unpacked in
     (l.written ≤ length l.keys)
     × (g.S.Store.ready l.fn.store → Left (Stored κ l.fn.node.level l.fn.node.block m → Going κ l.fn.node.level l.fn.node.block l.fn.from l.i l.n (lent l.fn.keys l.fn.handles l.fn.written) (lent l.keys l.handles l.written) m (g.S.Store.meaning l.store)) (g.S.Store.ready l.store))

@@ -5,13 +5,13 @@ use Rattle.ask.proofs.report.count_within.Given as given
 use Rattle.ask.proofs.report.count_within.Goals as goal
 
 abbrev of : (g : given.Over) → Kind g.row.K.Denot
-of g = kind g.K.Key.width g.K.Ord.cmp g.K.Key.packed g.K.Key.unpacked
+of g = kind g.K.Key.width g.K.Key.order g.K.Key.packed g.K.Key.unpacked
 
 abbrev law : (g : given.Over) → Lawful (of g)
 law g = record { ordered = g.met.K.Key.ordered; packing = g.met.K.Key.packing }
 
-pub returns-then-gt : goal.returns-then-gt
-returns-then-gt g c = λ h. record { call = λ p. within_zero (of g) (law g) _ _ _ _ (search rules); ready = h }
+pub returns-then-is_gt : goal.returns-then-is_gt
+returns-then-is_gt g c = λ h. record { call = λ p. within_zero (of g) (law g) _ _ _ _ (search rules); ready = h }
 
 pub returns : goal.returns
 returns g c = λ h.

@@ -8,7 +8,7 @@ use Rattle.ask.proofs.report.write_pair.Given as given
 use Rattle.ask.proofs.report.write_pair.Goals as goal
 
 abbrev of : (g : given.Over) → Kind g.row.K.Denot
-of g = kind g.K.Key.width g.K.Ord.cmp g.K.Key.packed g.K.Key.unpacked
+of g = kind g.K.Key.width g.K.Key.order g.K.Key.packed g.K.Key.unpacked
 
 pub returns-in_err-key-clause-writes : goal.returns-in_err-key-clause-writes
 returns-in_err-key-clause-writes g c =

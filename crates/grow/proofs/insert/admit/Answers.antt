@@ -9,7 +9,7 @@ use Rattle.grow.proofs.insert.admit.Goals.{else-root_full-via-then-root_full+els
 use Rattle.grow.proofs.insert.admit.Goals as goal
 
 abbrev of : (g : given.Over) → Kind g.row.K.Denot
-of g = kind g.K.Key.width g.K.Ord.cmp g.K.Key.packed g.K.Key.unpacked
+of g = kind g.K.Key.width g.K.Key.order g.K.Key.packed g.K.Key.unpacked
 
 pub returns-then-root-eq-TOP_LEVEL : goal.returns-then-root-eq-TOP_LEVEL
 returns-then-root-eq-TOP_LEVEL g c = λ h.

@@ -8,7 +8,7 @@ use Rattle.grow.proofs.split.settle.Given as given
 use Rattle.grow.proofs.split.settle.Goals as goal
 
 abbrev of : (g : given.Over) → Kind g.row.K.Denot
-of g = kind g.K.Key.width g.K.Ord.cmp g.K.Key.packed g.K.Key.unpacked
+of g = kind g.K.Key.width g.K.Key.order g.K.Key.packed g.K.Key.unpacked
 
 pub returns-then-weight-limit : goal.returns-then-weight-limit
 returns-then-weight-limit g c = λ h.
@@ -19,7 +19,7 @@ returns-then-weight-limit g c = λ h.
       call = λ due.
           let at = a.call (heavier_word (of g) _ _ due.child) in
           let key = b.call (room_same _ _ _ _ at.same due.child.parent.room) in
-          read_plain (of g) _ _ _ _ _ _ _ _ _ at key c.min-low.ensures c.limit.ensures due _ _ (omega (arith, c.if-weight-limit.true)) c.of_child-entry.ensures.weight c.of_child-entry.ensures.key c.of_child-entry.ensures.child
+          read_plain (of g) _ _ _ _ _ _ _ _ _ at key c.smaller-low.ensures c.limit.ensures due _ _ (omega (arith, c.if-weight-limit.true)) c.of_child-entry.ensures.weight c.of_child-entry.ensures.key c.of_child-entry.ensures.child
           (d.call (subst (Has _ _ _) (sym (key.same ∙ at.same)) (heavier_has (of g) _ _ due.child)));
       ready = d.ready;
     }
@@ -34,7 +34,7 @@ returns-in_err-divide g c =
       call = λ due.
           let at = a.call (heavier_word (of g) _ _ due.child) in
           let key = b.call (room_same _ _ _ _ at.same due.child.parent.room) in
-          lost_later (kin_same (key.same ∙ at.same)) (d.call (read_heavy (of g) _ _ _ _ _ _ _ _ _ at key c.min-low.ensures c.limit.ensures due (omega (arith, c.if-weight-limit.false))));
+          lost_later (kin_same (key.same ∙ at.same)) (d.call (read_heavy (of g) _ _ _ _ _ _ _ _ _ at key c.smaller-low.ensures c.limit.ensures due (omega (arith, c.if-weight-limit.false))));
       ready = d.ready;
     })
 
@@ -47,6 +47,6 @@ returns g c = λ h.
       call = λ due.
           let at = a.call (heavier_word (of g) _ _ due.child) in
           let key = b.call (room_same _ _ _ _ at.same due.child.parent.room) in
-          read_split (of g) _ _ _ _ _ _ _ _ _ at key c.min-low.ensures c.limit.ensures due _ (d.call (read_heavy (of g) _ _ _ _ _ _ _ _ _ at key c.min-low.ensures c.limit.ensures due (omega (arith, c.if-weight-limit.false))));
+          read_split (of g) _ _ _ _ _ _ _ _ _ at key c.smaller-low.ensures c.limit.ensures due _ (d.call (read_heavy (of g) _ _ _ _ _ _ _ _ _ at key c.smaller-low.ensures c.limit.ensures due (omega (arith, c.if-weight-limit.false))));
       ready = d.ready;
     }

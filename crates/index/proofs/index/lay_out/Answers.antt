@@ -12,7 +12,7 @@ pub returns-in_err-take_root : goal.returns-in_err-take_root
 returns-in_err-take_root g c =
     rw (raised _ _ c.from_residual-in_err-take_root.ensures)
     (λ h.
-    let κ = kind g.K.Key.width g.K.Ord.cmp g.K.Key.packed g.K.Key.unpacked in
+    let κ = kind g.K.Key.width g.K.Key.order g.K.Key.packed g.K.Key.unpacked in
     let m = g.S.Store.meaning c.args.store.now in
     let u = g.S.Store.meaning c.take.new.self in
     let at = c.in_ok-at.at in
@@ -27,7 +27,7 @@ pub returns-in_err-put_header : goal.returns-in_err-put_header
 returns-in_err-put_header g c =
     rw (raised _ _ c.from_residual-in_err-put_header.ensures)
     (λ h.
-    let κ = kind g.K.Key.width g.K.Ord.cmp g.K.Key.packed g.K.Key.unpacked in
+    let κ = kind g.K.Key.width g.K.Key.order g.K.Key.packed g.K.Key.unpacked in
     let m = g.S.Store.meaning c.args.store.now in
     let u = g.S.Store.meaning c.take.new.self in
     let at = c.in_ok-at.at in
@@ -45,7 +45,7 @@ returns-in_err-put_header g c =
 
 pub returns : goal.returns
 returns g c h =
-    let κ = kind g.K.Key.width g.K.Ord.cmp g.K.Key.packed g.K.Key.unpacked in
+    let κ = kind g.K.Key.width g.K.Key.order g.K.Key.packed g.K.Key.unpacked in
     let m = g.S.Store.meaning c.args.store.now in
     let u = g.S.Store.meaning c.take.new.self in
     let v = g.S.Store.meaning c.take_root.new.store in

@@ -13,7 +13,7 @@ returns-in_err-updated g c = rw (raised _ _ c.from_residual.ensures) (λ h. let 
 
 pub returns-in_err-put_header : goal.returns-in_err-put_header
 returns-in_err-put_header g c =
-    let κ = kind g.K.Key.width g.K.Ord.cmp g.K.Key.packed g.K.Key.unpacked in
+    let κ = kind g.K.Key.width g.K.Key.order g.K.Key.packed g.K.Key.unpacked in
     let law : Lawful κ = record { ordered = g.met.K.Key.ordered; packing = g.met.K.Key.packing } in
     let u = adds c.args.key.now c.args.handle in
     let m = g.S.Store.meaning c.args.store.now in
@@ -31,7 +31,7 @@ returns-in_err-put_header g c =
 
 pub returns : goal.returns
 returns g c h =
-    let κ = kind g.K.Key.width g.K.Ord.cmp g.K.Key.packed g.K.Key.unpacked in
+    let κ = kind g.K.Key.width g.K.Key.order g.K.Key.packed g.K.Key.unpacked in
     let law : Lawful κ = record { ordered = g.met.K.Key.ordered; packing = g.met.K.Key.packing } in
     let u = adds c.args.key.now c.args.handle in
     let m = g.S.Store.meaning c.args.store.now in

@@ -6,5 +6,5 @@ use Rattle.keys.proofs.search.below.Goals as goal
 
 pub returns-clause-value : goal.returns-clause-value
 returns-clause-value g c up =
-    let at = IsPartitionPoint-from_clause (λ x. is_lt (g.K.Ord.cmp x c.args.q.now)) _ _ c.partition_point.ensures.partitioned (parted g.met.K.Key.ordered false c.args.q.now _ up) (λ a r q k. let m = g.met.K.Ord.matches_partial_cmp a.0.now c.args.q.now in search rules) in
+    let at = IsPartitionPoint-from_clause (λ x. is_lt (g.K.Key.order x c.args.q.now)) _ _ c.partition_point.ensures.partitioned (parted g.met.K.Key.ordered false c.args.q.now _ up) (λ a r q k. search rules) in
     sym (front_count _ _ _ c.partition_point.ensures.bound at.0 at.1)

@@ -12,6 +12,6 @@ returns-clause-finds g c h =
       call = λ p.
           let r = a.call (countable g.K.Key.width _ _ p.few p.room) in
           let s = i.call (room_same _ _ _ _ r.same p.room) (r.value ∙ ap (λ z. z.words c.args.block 1) (sym r.same)) in
-          found g.K.Ord.cmp g.met.K.Key.ordered (form g.K.Key.width) g.K.Key.unpacked _ _ _ _ _ _ r.same s.0 (between_met _ _ _ _ _ _ c.loop-low.invariant.0 c.loop-low-test.false s.1);
+          found g.K.Key.order g.met.K.Key.ordered (form g.K.Key.width) g.K.Key.unpacked _ _ _ _ _ _ r.same s.0 (between_met _ _ _ _ _ _ c.loop-low.invariant.0 c.loop-low-test.false s.1);
       ready = i.ready;
     }

@@ -11,7 +11,7 @@ abbrev pub invariant-loop-low : goal.invariant-loop-low
 invariant-loop-low g l =
     let m = g.S.Store.meaning l.initial.store in
     let φ = form g.K.Key.width in
-    (l.low ≤ l.high) × (l.high ≤ 80) × (g.S.Store.ready l.initial.store → Left (Room φ l.block m → l.initial.high ≡ m.words l.block 1 → (g.S.Store.meaning l.store ≡ m) × Between g.K.Ord.cmp (key_of φ g.K.Key.unpacked (m.words l.block)) (m.words l.block 1) l.q l.low l.high) (g.S.Store.ready l.store))
+    (l.low ≤ l.high) × (l.high ≤ 80) × (g.S.Store.ready l.initial.store → Left (Room φ l.block m → l.initial.high ≡ m.words l.block 1 → (g.S.Store.meaning l.store ≡ m) × Between g.K.Key.order (key_of φ g.K.Key.unpacked (m.words l.block)) (m.words l.block 1) l.q l.low l.high) (g.S.Store.ready l.store))
 
 abbrev pub decreases-loop-low : goal.decreases-loop-low
 decreases-loop-low g l = l.high - l.low

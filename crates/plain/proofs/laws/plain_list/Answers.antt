@@ -14,5 +14,5 @@ returns g c =
         intervals = λ low high. record { counted = counted o low high ps a; none = within_none o low high ps };
         kept = λ most n. kept o most (record { pairs = ps; tally = n }) a;
       },
-      refusals g.K.Ord.cmp,
+      refusals g.K.Key.order,
     )

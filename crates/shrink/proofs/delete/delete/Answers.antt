@@ -6,7 +6,7 @@ use Rattle.shrink.proofs.delete.delete.Given as given
 use Rattle.shrink.proofs.delete.delete.Goals as goal
 
 abbrev of : (g : given.Over) → Kind g.row.K.Denot
-of g = kind g.K.Key.width g.K.Ord.cmp g.K.Key.packed g.K.Key.unpacked
+of g = kind g.K.Key.width g.K.Key.order g.K.Key.packed g.K.Key.unpacked
 
 abbrev law : (g : given.Over) → Lawful (of g)
 law g = record { ordered = g.met.K.Key.ordered; packing = g.met.K.Key.packing }

@@ -7,7 +7,7 @@ use Rattle.shrink.proofs.delete.lower.Goals as goal
 use Rattle.shrink.proofs.delete.lower.Goals.{then-root-eq0-via-then-root-eq0, then-root-eq0-via-else-root-eq0+in_ok-count+then-branch-ne1, then-not-contains-via-then-not-contains, then-not-contains-via-else-not-contains+then-keys-limit}
 
 abbrev of : (g : given.Over) → Kind g.row.K.Denot
-of g = kind g.K.Key.width g.K.Ord.cmp g.K.Key.packed g.K.Key.unpacked
+of g = kind g.K.Key.width g.K.Key.order g.K.Key.packed g.K.Key.unpacked
 
 pub returns-then-root-eq0 : goal.returns-then-root-eq0
 returns-then-root-eq0 g c = λ h. elim c.then-root-eq0.branch [

@@ -6,7 +6,7 @@ use Rattle.shrink.proofs.merge.mend.Given as given
 use Rattle.shrink.proofs.merge.mend.Goals as goal
 
 abbrev of : (g : given.Over) → Kind g.row.K.Denot
-of g = kind g.K.Key.width g.K.Ord.cmp g.K.Key.packed g.K.Key.unpacked
+of g = kind g.K.Key.width g.K.Key.order g.K.Key.packed g.K.Key.unpacked
 
 pub returns-in_err-share : goal.returns-in_err-share
 returns-in_err-share g c =

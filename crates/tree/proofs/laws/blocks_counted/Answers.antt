@@ -6,7 +6,7 @@ use Rattle.tree.proofs.laws.blocks_counted.Goals as goal
 
 pub returns : goal.returns
 returns g c s =
-    let order = g.K.Ord.cmp in
+    let order = g.K.Key.order in
     record {
       first = refl;
       takes = λ t k h r. takes_right order (unit_of s) (shape_units s) t k h r.weighed;

@@ -10,5 +10,5 @@ returns g c =
     record {
       splits = λ s. record { parts = splits _ (unit_of s); leaf = leaf_halved _ (unit_of s) };
       way = λ s l k c cs f a.
-          (length (route g.K.Ord.cmp l k c cs).before, route_last o (unit_of s) (shape_units s) l k c cs f a, route_at o (unit_of s) (shape_units s) l k c cs);
+          (length (route g.K.Key.order l k c cs).before, route_last o (unit_of s) (shape_units s) l k c cs f a, route_at o (unit_of s) (shape_units s) l k c cs);
     }

@@ -9,7 +9,7 @@ use Rattle.index.proofs.index.Index.insert.Goals as goal
 
 pub returns-in_err-updated-clause-updates : goal.returns-in_err-updated-clause-updates
 returns-in_err-updated-clause-updates g c =
-    let κ = kind g.K.Key.width g.K.Ord.cmp g.K.Key.packed g.K.Key.unpacked in
+    let κ = kind g.K.Key.width g.K.Key.order g.K.Key.packed g.K.Key.unpacked in
     let u = adds c.args.key.now c.args.handle in
     let i = c.args.self.now in
     let s = c.step.new.self in
@@ -19,7 +19,7 @@ returns-in_err-updated-clause-updates g c =
 
 pub returns-clause-updates : goal.returns-clause-updates
 returns-clause-updates g c =
-    let κ = kind g.K.Key.width g.K.Ord.cmp g.K.Key.packed g.K.Key.unpacked in
+    let κ = kind g.K.Key.width g.K.Key.order g.K.Key.packed g.K.Key.unpacked in
     let u = adds c.args.key.now c.args.handle in
     let i = c.args.self.now in
     let s = c.step.new.self in

@@ -6,5 +6,5 @@ use Rattle.index.proofs.index.Index.rank.Goals as goal
 
 pub returns-clause-answers : goal.returns-clause-answers
 returns-clause-answers g c =
-    let κ = kind g.K.Key.width g.K.Ord.cmp g.K.Key.packed g.K.Key.unpacked in
-    queried κ g.S.Store.meaning g.S.Store.ready (plain_rank g.K.Ord.cmp c.args.key.now) c.args.self.now c.step.new.self c.step.result (search rules) c.step.ensures.remembers c.step.ensures.handle
+    let κ = kind g.K.Key.width g.K.Key.order g.K.Key.packed g.K.Key.unpacked in
+    queried κ g.S.Store.meaning g.S.Store.ready (plain_rank g.K.Key.order c.args.key.now) c.args.self.now c.step.new.self c.step.result (search rules) c.step.ensures.remembers c.step.ensures.handle
