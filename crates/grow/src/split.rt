@@ -39,7 +39,11 @@ pub fn divide<K: Key, S: Store>(store: &mut S, way: Way, low: K) -> Result<(), F
 fn smaller<K: Key>(stored: K, sought: K) -> K
     ensures { result ≡ ord_min K.order stored sought }
 {
-    if stored.compare(&sought).is_gt() { sought } else { stored }
+    if stored.compare(&sought).is_gt() {
+        sought
+    } else {
+        stored
+    }
 }
 
 // Corrects the entry of a child that `key` was put into, and splits the child if it weighs too much.

@@ -127,9 +127,9 @@ pub cleared_cut : (s n b e : ℕ) (xs : List ℕ) → b ≡ min s (length xs) �
 cleared_cut s n b e xs p q =
     ⊎_elim
     (λ (l : length xs < s).
-        let z : e - b ≡ 0 = omega arith in
-        ap (λ k. cleared b k xs) z ∙ cleared_none b xs ∙ sym (cleared_none s xs) ∙ cleared_past s xs 0 n (omega arith) (omega arith))
+    let z : e - b ≡ 0 = omega arith in
+    ap (λ k. cleared b k xs) z ∙ cleared_none b xs ∙ sym (cleared_none s xs) ∙ cleared_past s xs 0 n (omega arith) (omega arith))
     (λ (l : s ≤ length xs).
-        let z : b ≡ s = omega arith in
-        ap (λ k. cleared k (e - k) xs) z ∙ cleared_end s xs n e e (omega arith) (omega arith) (λ _. omega arith) (omega arith))
+    let z : b ≡ s = omega arith in
+    ap (λ k. cleared k (e - k) xs) z ∙ cleared_end s xs n e e (omega arith) (omega arith) (λ _. omega arith) (omega arith))
     (cases_lt (length xs) s)
